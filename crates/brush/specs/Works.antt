@@ -28,7 +28,7 @@ pub record BrushValue : Type 0 where
 
 abbrev pub brush_now : {S C : Type 0} → (S → ShelfView) → (C → CanvasView) → LiveBrush S C → BrushValue
 brush_now shelf canvas p = record {
-  tools = paint_tools p.dir.now p.textures.now p.colormap.0;
+  tools = paint_tools p.art.dir.now p.art.textures.now p.art.colormap.0;
   state = paint_state (shelf p.shelf.now) p.cache.now (canvas p.canvas.now);
   names = record { cache = p.cache.ghost_name; shelf = p.shelf.ghost_name; canvas = p.canvas.ghost_name };
 }

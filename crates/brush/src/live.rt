@@ -8,18 +8,13 @@ use crate::layers::paint_picture;
 use crate::middles::paint_middle;
 use art_rules::Shelf;
 use pixel_strips::Canvas;
-use texture_build::{
-    CacheFault, Directory, Hands, LumpCache, LumpNo, TextureArt, TextureStrip, Textures,
-    paint_texture,
-};
+use texture_build::{CacheFault, Hands, LumpCache, TextureArt, TextureStrip, paint_texture};
 
-/// Paints on a canvas with textures and with lumps of a directory, which a cache reads by its shelf.
-/// `colormap` is the number of the lump COLORMAP, which is live with the tag `Static`.
+/// Paints on a canvas with textures and with lumps of a directory, which a cache reads by its shelf:
+/// `art` is what it paints with.
 #[derive(Drop)]
 pub struct LiveBrush<'t, 'a, S: Shelf, C: Canvas> {
-    pub textures: &'t Textures,
-    pub dir: &'t Directory,
-    pub colormap: LumpNo,
+    pub art: TextureArt<'t>,
     pub cache: &'a mut LumpCache,
     pub shelf: &'a mut S,
     pub canvas: &'a mut C,
@@ -43,51 +38,36 @@ impl<'t, 'a, S: Shelf, C: Canvas> Brush for LiveBrush<'t, 'a, S, C> {
 
     #[inline(always)]
     fn texture(&mut self, strip: &TextureStrip) -> Result<(), CacheFault> {
-        let art = TextureArt {
-            textures: self.textures,
-            dir: self.dir,
-            colormap: self.colormap,
-        };
         let mut hands = Hands {
             cache: &mut *self.cache,
             shelf: &mut *self.shelf,
             canvas: &mut *self.canvas,
         };
-        paint_texture(&art, &mut hands, strip)
+        paint_texture(&self.art, &mut hands, strip)
     }
 
     fn floor(&mut self, strip: &FloorStrip<'_>) -> Result<(), CacheFault> {
-        let art = TextureArt {
-            textures: self.textures,
-            dir: self.dir,
-            colormap: self.colormap,
-        };
         let mut hands = Hands {
             cache: &mut *self.cache,
             shelf: &mut *self.shelf,
             canvas: &mut *self.canvas,
         };
-        paint_floor(&art, &mut hands, strip)
+        paint_floor(&self.art, &mut hands, strip)
     }
 
     fn middle(&mut self, strip: &MiddleStrip) -> Result<(), CacheFault> {
-        let art = TextureArt {
-            textures: self.textures,
-            dir: self.dir,
-            colormap: self.colormap,
-        };
         let mut hands = Hands {
             cache: &mut *self.cache,
             shelf: &mut *self.shelf,
             canvas: &mut *self.canvas,
         };
-        paint_middle(&art, &mut hands, strip)
+        paint_middle(&self.art, &mut hands, strip)
     }
 
     fn picture(&mut self, strip: &PictureStrip<'_>) -> Result<(), CacheFault> {
         paint_picture(
-            self.dir,
-            self.colormap,
+            self.art.dir,
+            self.art.colormap,
             self.cache,
             self.shelf,
             self.canvas,

@@ -4,12 +4,9 @@ use Rattle.std.proofs.Math.ListN.{get_or-map}
 use Rattle.frame_core.specs.Rules.{Art, DrawAlike, Event, FragmentNote, FragmentNumbers, LeafFragment, SIL_BOTTOM, SIL_TOP, SceneValue, Sector, SectorFlats, Seg, SideTextures, SpriteEntry, Surface, ViewValue, Wall, WallFacts, WallTexture, back_of, drawseg_of, drawsegs, drawsegs_from, facts_of, fragment_facts, fragment_wall, masked_dots, masked_mid, middle_hangs, middle_stands, no_surface, no_textures, note_at, notes_from, openings_list, own_front, own_mid, place_if, room_if, saved_by, saved_from, saves_bottom, saves_top, seg_at, seg_light, side_at, silhouette_of, surface_at, surface_of, surfaces_of, texture_at, textures_at, view_drawsegs, view_notes, wall_of, wall_texture, walls_of}
 use Rattle.picture_rules.proofs.wall.NoteLemmas.{length-saved_by, note-bottom_clip, note-middle_column, note-top_clip}
 use Rattle.sound_scene.specs.{Sound.middles_of, Sound.textures_view, Pictures.scene_of}
-use Rattle.masked_draw.specs.Lists.{MaskedLists, heights_of, lists_of as lists_by, middle_by, no_sector, note_mid, note_seg, noted_drawseg, noted_drawsegs, saved_column, sector_by, side_by}
+use Rattle.masked_draw.specs.Lists.{heights_of, middle_by, no_sector, note_mid, note_seg, noted_drawseg, noted_drawsegs, saved_column, sector_by, side_by}
+use Rattle.frame_core.specs.ViewStrips.{mask_lists}
 use Rattle.frame_core.proofs.AlikeLemmas.{as_read, masked_dots-read}
-
--- the lists of a scene as the masked pass has them
-abbrev pub mask_lists : SceneValue → MaskedLists
-mask_lists s = lists_by s.base.level.segs s.base.level.sides s.base.level.sectors (middles_of s.faces.sides)
 
 -- a surface has the heights and the light of its sector
 record HasHeights (surface : Surface) (sector : Sector) : Type 0 where

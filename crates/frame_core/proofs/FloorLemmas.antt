@@ -1,22 +1,19 @@
 -- Laws of the planes of a view: what drawing them asks is there, and what it paints is the view's.
-use Rattle.picture_rules.proofs.Common.{[], All, All-contains, ap, arith, eq-eqb, false, get_or, IfSome, inl, inr, IsSome, length, List, list_any, list_any_at, None, Option, option_map, or_left, or_right, refl, Result, Some, subst, sym, true, unwrap_or, ℕ, ⊤, ◌<◌, ◌==◌, ◌∙◌, ◌≡◌}
-use Rattle.frame_core.specs.Rules.{Dot, Event, Flat4, Heap, Limits, Lump, Painter, Plane, Scene, SceneValue, Sector, SectorFlats, Surface, ViewShape, ViewValue, book_lumps, flat_number, has_flat, lump_bytes, no_surface, planes_dots, planes_of, surface_at, surface_of, view_events, view_planes, view_steps}
-use Rattle.texture_build.specs.{Caches.cache_fault, CacheFault.CacheFault, TexNo.TexNo}
+use Rattle.picture_rules.proofs.Common.{[], All, All-contains, ap, arith, eq-eqb, false, get_or, IfSome, inl, inr, IsSome, length, List, list_any, list_any_at, None, Option, option_map, or_left, or_right, refl, Some, subst, sym, true, unwrap_or, ℕ, ◌<◌, ◌==◌, ◌∙◌, ◌≡◌}
+use Rattle.frame_core.specs.Rules.{Dot, Event, Flat4, Heap, Limits, Lump, Plane, Scene, SceneValue, Sector, SectorFlats, Surface, ViewShape, ViewValue, book_lumps, flat_number, has_flat, no_surface, planes_dots, planes_of, surface_at, surface_of, view_events, view_planes, view_steps}
+use Rattle.texture_build.specs.{TexNo.TexNo}
 use Rattle.pixel_strips.specs.Canvases.{CanvasView}
 use Rattle.picture_rules.specs.declared.plane.Flat4.TheVariants as flat
 use Rattle.texture_build.specs.{Arts.view_art, Draws.CanDraw}
-use Rattle.texture_build.specs.Paints.{PaintState, Paints, paint_tools}
-use Rattle.texture_build.specs.Views.{IsPrepared, TexturesView}
-use Rattle.texture_build.proofs.DrawLemmas.{IsMapped}
-use Rattle.texture_build.proofs.PaintLemmas.{paints-asked, paints-mapped, paints-same, paints-wider}
-use Rattle.plane_draw.specs.Planes.{CanDrawPlane, HasFlat, IsFlatOf, IsSkyColumn}
+use Rattle.texture_build.specs.Views.{IsPrepared}
+use Rattle.plane_draw.specs.Planes.{CanDrawPlane, HasFlat, IsFlatOf}
 use Rattle.sound_scene.specs.{Sound.textures_view, Pictures.lists_of, Pictures.scene_of}
-use Rattle.frame_core.specs.{declared.bench.Bench.Bench, declared.fault.ViewFault.ViewFault}
-use Rattle.frame_core.specs.Faults.{from_cache}
-use Rattle.frame_core.specs.Views.{CanDrawView, IsViewLump, PaintsView, ViewScene, held_scene}
+use Rattle.frame_core.specs.{declared.bench.Bench.Bench}
+use Rattle.frame_core.specs.Views.{CanDrawView, IsViewLump}
 use Rattle.frame_core.specs.Walked.{HasWalked, IsFlatOf as IsFlatIn, IsFlatShown, IsPlaneIn, planes_after}
+use Rattle.plane_draw.specs.Strips.{planes_strips}
+use Rattle.frame_core.specs.ViewStrips.{no_bytes, scene_planes, scene_sky}
 use Rattle.frame_core.specs.Painters.{HasWalkedView, IsPlacedIn, limits_in}
-use Rattle.frame_core.proofs.PaintLemmas.{cache_above}
 use Rattle.frame_core.proofs.SceneLemmas.{flats_at, no_flats, no_sector, patches_there, sky_of_surface, surface_from}
 
 -- the sky's texture of a scene, as drawing has it
@@ -78,7 +75,7 @@ unfolding planes_after view_planes planes_of
 planes_are v bytes scene limits events b walked = walked.built.planes
 
 -- the sky of the picture's scene, and its art over other bytes
-held_sky : (bytes : ℕ → List ℕ) (scene : SceneValue) (sky : Option TexNo) → IsSkyOf scene sky → IfSome sky (λ (tex : TexNo). (scene_of bytes scene).sky ≡ tex.0)
+pub held_sky : (bytes : ℕ → List ℕ) (scene : SceneValue) (sky : Option TexNo) → IsSkyOf scene sky → IfSome sky (λ (tex : TexNo). (scene_of bytes scene).sky ≡ tex.0)
 unfolding scene_of
 held_sky bytes scene None is = tt
 held_sky bytes scene (Some tex) is = ap (λ (o : Option ℕ). unwrap_or o 0) (sym is)
@@ -88,7 +85,7 @@ unfolding scene_of
 scene_art other bytes scene = refl
 
 -- the sky's texture is one that a view draws with
-sky_prepared : (scene : SceneValue) (sky : Option TexNo) (number : ℕ) → IfSome scene.faces.sky (IsPrepared (textures_view scene)) → IsSkyOf scene sky → IsSome sky → IfSome sky (λ tex. number ≡ tex.0) → IsPrepared (textures_view scene) number
+pub sky_prepared : (scene : SceneValue) (sky : Option TexNo) (number : ℕ) → IfSome scene.faces.sky (IsPrepared (textures_view scene)) → IsSkyOf scene sky → IsSome sky → IfSome sky (λ tex. number ≡ tex.0) → IsPrepared (textures_view scene) number
 sky_prepared scene None number prepared is some same = absurd (let false_is_true : false ≡ true = some in cc)
 sky_prepared scene (Some tex) number prepared is some same =
     subst (IsPrepared (textures_view scene)) (sym same) (subst (λ (o : Option ℕ). IfSome o (IsPrepared (textures_view scene))) (sym is) prepared)
@@ -109,7 +106,7 @@ flat_shown scene lump long shown =
     list_any_at (has_flat lump) flats shown.sector no_flats (omega (arith, shown.there, long))
     (flat_by lump _ (get_or sectors shown.sector no_sector) (get_or flats shown.sector no_flats) (surface_from sectors flats shown.sector no_sector no_flats no_surface long shown.there) shown.is)
 
-flat_lump : (lumps : List Lump) (scene : SceneValue) (z : Heap) (sky : Option TexNo) (shape : ViewShape) (planes : List Plane) (lump : ℕ) → CanDrawView lumps scene z → IsSkyOf scene sky → All (IsPlaneIn shape scene) planes → IsFlatOf planes lump →
+pub flat_lump : (lumps : List Lump) (scene : SceneValue) (z : Heap) (sky : Option TexNo) (shape : ViewShape) (planes : List Plane) (lump : ℕ) → CanDrawView lumps scene z → IsSkyOf scene sky → All (IsPlaneIn shape scene) planes → IsFlatOf planes lump →
     IsViewLump lumps scene lump
 flat_lump lumps scene z sky shape planes lump can is all asked =
     let flat_is_shown : IsFlatShown scene (flat.Lump lump) = subst (IsFlatShown scene) asked.is (All-contains (IsPlaneIn shape scene) planes asked.plane all asked.among).flat in
@@ -118,30 +115,16 @@ flat_lump lumps scene z sky shape planes lump can is all asked =
       drawn = or_left (list_any (has_flat lump) scene.faces.flats) (list_any (λ n. n == lump) (book_lumps scene.book)) (flat_shown scene lump can.drawable.flats flat_is_shown);
     }
 
--- what the call that draws planes paints, with these textures and this colormap
-abbrev pub PaintsFloors : (Painter → ℕ → ℕ) → ViewScene → TexturesView → ℕ → List Plane → Option TexNo → PaintState → PaintState → Result (Unit {0}) CacheFault → Type 0
-PaintsFloors mark s textures colormap planes sky old new part =
-    Paints cache_fault mark (paint_tools s.dir textures colormap) (IsSkyColumn s.view sky planes) (IsFlatOf planes) (λ (picture : Scene). IfSome sky (λ (tex : TexNo). picture.sky ≡ tex.0))
-    (λ contents picture. planes_dots s.view (record picture { art = view_art (lump_bytes contents s.dir.lumps) textures colormap }) planes) old new part
-
 -- the dots of the planes of a view
 abbrev pub floors_of : ViewValue → SceneValue → Scene → List Dot
 floors_of v scene picture = planes_dots v picture (view_planes (view_steps v picture (view_events v (lists_of scene))))
 
--- what it paints is the planes of the view, its faults told as those of a view
-pub floors-drawn : {mark : Painter → ℕ → ℕ} {s : ViewScene} {old new : PaintState} (b : Bench) (sky : Option TexNo) (textures : TexturesView) (colormap : ℕ) (part : Result (Unit {0}) CacheFault) (whole : Result (Unit {0}) ViewFault) →
-    CanDrawView s.dir.lumps s.scene old.cache → HasWalkedView s.view s.scene b → IsSkyOf s.scene sky → textures ≡ textures_view s.scene → colormap ≡ s.scene.base.colormap → IsMapped from_cache part whole →
-    PaintsFloors mark s textures colormap b.planes.planes sky old new part → PaintsView mark s (floors_of s.view s.scene) old new whole
-floors-drawn {mark} {s} {old} {new} b sky textures colormap part whole can walked is e f mapped drawn =
-    let events = view_events s.view (lists_of s.scene) in
-    let planes_inside : All (IsPlaneIn s.view.shape s.scene) b.planes.planes = (walked (λ lump. [])).planes in
-    let paints_scene_floors : PaintsFloors mark s (textures_view s.scene) s.scene.base.colormap b.planes.planes sky old new part =
-    subst (λ (n : ℕ). PaintsFloors mark s (textures_view s.scene) n b.planes.planes sky old new part) f
-    (subst (λ (t : TexturesView). PaintsFloors mark s t colormap b.planes.planes sky old new part) e drawn) in
-    let scene_with_no_bytes : Scene = scene_of (λ lump. []) s.scene in
-    paints-mapped (λ (never : ⊥). absurd never) from_cache cache_above part whole mapped
-    (paints-wider (λ number own asked. sky_prepared s.scene sky number can.drawable.sky is asked.some asked.texture) (λ lump asked. flat_lump s.dir.lumps s.scene old.cache sky s.view.shape b.planes.planes lump can is planes_inside asked)
-    (paints-same (λ contents q. floors_of s.view s.scene (held_scene contents s))
-    (λ contents q asked. ap (λ (picture : Scene). planes_dots s.view picture b.planes.planes) (scene_art (λ lump. []) (lump_bytes contents s.dir.lumps) s.scene)
-    ∙ ap (planes_dots s.view (held_scene contents s)) (planes_are s.view (lump_bytes contents s.dir.lumps) s.scene (limits_in b) events b (walked (lump_bytes contents s.dir.lumps))))
-    (paints-asked (λ (q : Unit {0}). ⊤) (λ q. scene_with_no_bytes) (λ q asked. held_sky (λ lump. []) s.scene sky is) paints_scene_floors)))
+sky_back : (sky : Option TexNo) → sky ≡ option_map (λ n. let tex : TexNo = record { 0 = n } in tex) (option_map (λ (tex : TexNo). tex.0) sky)
+sky_back None = refl
+sky_back (Some tex) = refl
+
+-- the strips of the planes of a bench are those of the view
+pub floors-same : (v : ViewValue) (s : SceneValue) (b : Bench) (sky : Option TexNo) → HasWalkedView v s b → IsSkyOf s sky → planes_strips v sky b.planes.planes ≡ planes_strips v (scene_sky s) (scene_planes v s)
+floors-same v s b sky walked is =
+    ap (planes_strips v sky) (planes_are v no_bytes s (limits_in b) (view_events v (lists_of s)) b (walked no_bytes))
+    ∙ ap (λ (o : Option TexNo). planes_strips v o (scene_planes v s)) (sky_back sky ∙ ap (λ (o : Option ℕ). option_map (λ n. let tex : TexNo = record { 0 = n } in tex) o) is)

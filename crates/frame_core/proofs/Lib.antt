@@ -20,9 +20,10 @@ pub mod FragmentLemmas
 pub mod CanLemmas
 pub mod CountLemmas
 pub mod ViewLemmas
-pub mod DotLemmas
+pub mod EventStripLemmas
 pub mod PainterLemmas
-pub mod CounterLemmas
+pub mod PartLemmas
+pub mod PaintedLemmas
 pub mod ViewListLemmas
 pub mod ShownLemmas
 pub mod ListerLemmas

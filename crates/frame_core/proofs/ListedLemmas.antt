@@ -8,7 +8,8 @@ use Rattle.sound_scene.specs.{Whole.AllColumnsSingle, Whole.IsNoneOrSingle, Pict
 use Rattle.masked_draw.specs.Lists.{middle_by, note_seg}
 use Rattle.masked_draw.specs.Ready.{CanDrawMiddle, IsListed, IsNotedMiddle}
 use Rattle.frame_core.specs.{Views.IsDrawable, Walked.IsEventIn}
-use Rattle.frame_core.proofs.{DrawsegLemmas.mask_lists, SceneLemmas.patches_there}
+use Rattle.frame_core.specs.ViewStrips.{mask_lists}
+use Rattle.frame_core.proofs.SceneLemmas.{patches_there}
 
 -- the seg of each fragment of events that name what is there is there
 segs_there : (v : ViewValue) (s : SceneValue) (leaf : ℕ) (events : List Event) → AllByRecursion (IsEventIn v s) events → AllByRecursion (λ (f : LeafFragment). f.seg < length s.base.level.segs) (leaf_fragments leaf events)

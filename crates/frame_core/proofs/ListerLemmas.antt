@@ -1,40 +1,47 @@
 -- Laws of a lister: an event that it was given after others, and a whole walk.
 use Rattle.picture_rules.proofs.Common.{[], ap, Err, err_from_is_err_and, IsErrAnd, length, List, Ok, OnOk, refl, Result, subst, sym, ℕ, ◌++◌, ◌∙◌, ◌∷◌, ◌≡◌}
-use Rattle.frame_core.specs.Rules.{Event, LevelLists, Limits, ListedFragment, ListedPlane, ListedSprite, OverLimit, Plane, Scene, SceneValue, ViewListValue, ViewValue, event_list, event_planes, plane_makers, view_events, view_list}
+use Rattle.std.specs.declared.convert.Infallible.{Infallible}
+use Rattle.frame_core.specs.Rules.{Event, LevelLists, Limits, ListedFragment, ListedPlane, ListedSprite, Plane, Scene, SceneValue, ViewListValue, ViewValue, event_list, event_planes, plane_makers, view_events, view_list}
 use Rattle.picture_rules.proofs.ListLemmas.{plane_makers-count}
 use Rattle.receiver_rules.specs.Receivers.{Receives}
 use Rattle.frame_core.specs.{declared.bench.Bench.Bench, Walked.HasWalked}
 use Rattle.sound_scene.specs.Pictures.{lists_of, scene_of}
-use Rattle.frame_core.specs.Painters.{CanCountNext, CounterValue, HasWalkedNothing, HasWalkedView, limits_in}
+use Rattle.brush.specs.declared.dry.DryBrush.{DryBrush}
+use Rattle.wall_columns.specs.declared.fault.WallStop.{WallStop}
+use Rattle.frame_core.specs.Painters.{CanPaintNext, HasWalkedNothing, HasWalkedView, PainterValue, limits_in}
 use Rattle.frame_core.specs.ViewLists.{HasListed, WalkListValue, listed_planes, listed_sprites, nothing_listed}
-use Rattle.frame_core.specs.Listers.{HasGathered, IsListedView, ListerValue}
-use Rattle.frame_core.proofs.CounterLemmas.{CounterVisits, counted_none, stopped_all}
+use Rattle.frame_core.specs.Listers.{HasGathered, IsListed, IsListedView, ListerValue, dry_stands, dry_stopped, dry_takes}
+use Rattle.frame_core.proofs.PainterLemmas.{HasAsked, PainterVisits, painted-none, stopped-all, whole-walk}
 use Rattle.frame_core.proofs.ViewListLemmas.{listed-none, planes-walked}
 
 -- the answer of a lister that was given events
-abbrev pub ListerVisits : ListerValue → ListerValue → List Event → Result (Unit {0}) OverLimit → Type 0
+abbrev pub ListerVisits : ListerValue → ListerValue → List Event → Result (Unit {0}) (WallStop Infallible) → Type 0
 ListerVisits p q events result =
-    Receives (λ (p : ListerValue). CanCountNext p.counter) (λ (p : ListerValue) start es. HasGathered start p es (Ok tt)) (λ (p : ListerValue) start es stop. HasGathered start p es (Err stop)) p q events result
+    Receives (λ (p : ListerValue). CanPaintNext dry_takes p.painter) (λ (p : ListerValue) start es. HasGathered start p es (Ok tt)) (λ (p : ListerValue) start es stop. HasGathered start p es (Err stop)) p q events result
 
 -- a list with one event more, wherever the walk began
 abbrev ListsNext : ViewValue → SceneValue → Bench → Bench → WalkListValue → WalkListValue → Event → Type 0
 ListsNext v scene b c list next e = (bytes : ℕ → List ℕ) (limits : Limits) (events : List Event) → HasWalked v bytes scene limits events b → HasWalked v bytes scene limits (events ++ e ∷ []) c →
     HasListed v (scene_of bytes scene) events list → HasListed v (scene_of bytes scene) (events ++ e ∷ []) next
 
+-- what a painter whose brush leaves nothing was given
+abbrev pub DryVisits : PainterValue DryBrush → PainterValue DryBrush → List Event → Result (Unit {0}) (WallStop Infallible) → Type 0
+DryVisits p q events result = PainterVisits dry_takes dry_stands dry_stopped p q events result
+
 -- an event that was listed
-pub lists-passed : (p : ListerValue) (q : CounterValue) (next : WalkListValue) (e : Event) → CounterVisits p.counter q (e ∷ []) (Ok tt) →
-    ListsNext p.counter.view p.counter.scene p.counter.bench q.bench p.list next e → ListerVisits p (record p { counter = q; list = next }) (e ∷ []) (Ok tt)
+pub lists-passed : (p : ListerValue) (q : PainterValue DryBrush) (next : WalkListValue) (e : Event) → DryVisits p.painter q (e ∷ []) (let done : Result (Unit {0}) (WallStop Infallible) = Ok tt in done) →
+    ListsNext p.painter.view p.painter.scene p.painter.bench q.bench p.list next e → ListerVisits p (record p { painter = q; list = next }) (e ∷ []) (let done : Result (Unit {0}) (WallStop Infallible) = Ok tt in done)
 lists-passed p q next e visits lists = record {
   ok = record {
     each = λ start before stood.
-        let is_counted = visits.ok.each start.counter before stood.counted in
-        let lists_next : ListsNext start.counter.view start.counter.scene p.counter.bench q.bench p.list next e =
-        subst (λ (s : SceneValue). ListsNext start.counter.view s p.counter.bench q.bench p.list next e) stood.counted.scene
-        (subst (λ (v : ViewValue). ListsNext v p.counter.scene p.counter.bench q.bench p.list next e) stood.counted.view lists) in
+        let painted = visits.ok.each start.painter before stood.painted in
+        let lists_next : ListsNext start.painter.view start.painter.scene p.painter.bench q.bench p.list next e =
+        subst (λ (s : SceneValue). ListsNext start.painter.view s p.painter.bench q.bench p.list next e) stood.painted.scene
+        (subst (λ (v : ViewValue). ListsNext v p.painter.scene p.painter.bench q.bench p.list next e) stood.painted.view lists) in
         record {
-          counted = is_counted;
+          painted = painted;
           name = stood.name;
-          listed = λ bytes. lists_next bytes (limits_in start.counter.bench) before (stood.counted.walked bytes) (is_counted.walked bytes) (stood.listed bytes);
+          listed = λ bytes. lists_next bytes (limits_in start.painter.bench) before (stood.painted.walked bytes) (painted.walked bytes) (stood.listed bytes);
         };
   };
   takes_on = record { each = visits.takes_on.each };
@@ -42,38 +49,50 @@ lists-passed p q next e visits lists = record {
 }
 
 -- an event at which a limit was passed
-pub lists-stopped : (p : ListerValue) (q : CounterValue) (e : Event) (stop : OverLimit) (result : Result (Unit {0}) OverLimit) → IsErrAnd result (λ over. over ≡ stop) →
-    CounterVisits p.counter q (e ∷ []) (Err stop) → ListerVisits p (record p { counter = q }) (e ∷ []) result
+pub lists-stopped : (p : ListerValue) (q : PainterValue DryBrush) (e : Event) (stop : WallStop Infallible) (result : Result (Unit {0}) (WallStop Infallible)) → IsErrAnd result (λ other. other ≡ stop) →
+    DryVisits p.painter q (e ∷ []) (Err stop) → ListerVisits p (record p { painter = q }) (e ∷ []) result
 lists-stopped p q e stop result told visits =
     let result_is_error = err_from_is_err_and result told in
-    subst (ListerVisits p (record p { counter = q }) (e ∷ [])) (sym (result_is_error.1 ∙ ap Err result_is_error.2)) (record {
+    subst (ListerVisits p (record p { painter = q }) (e ∷ [])) (sym (result_is_error.1 ∙ ap Err result_is_error.2)) (record {
       ok = tt;
       takes_on = tt;
       err = record {
         count = visits.err.count;
         some = visits.err.some;
         within = visits.err.within;
-        each = λ start before stood. record { counted = visits.err.each start.counter before stood.counted; name = stood.name; listed = tt };
+        each = λ start before stood. record { painted = visits.err.each start.painter before stood.painted; name = stood.name; listed = tt };
       };
     })
 
-gathered_none : (p : ListerValue) → HasWalkedNothing p.counter.view p.counter.scene p.counter.bench → p.list ≡ nothing_listed → HasGathered p p [] (Ok tt)
+gathered_none : (p : ListerValue) → HasWalkedNothing p.painter.view p.painter.scene p.painter.bench → p.list ≡ nothing_listed → HasGathered p p [] (let done : Result (Unit {0}) (WallStop Infallible) = Ok tt in done)
 gathered_none p walked empty = record {
-  counted = counted_none p.counter walked;
+  painted = painted-none p.painter walked;
   name = refl;
-  listed = λ bytes. subst (HasListed p.counter.view (scene_of bytes p.counter.scene) []) (sym empty) (listed-none p.counter.view (scene_of bytes p.counter.scene));
+  listed = λ bytes. subst (HasListed p.painter.view (scene_of bytes p.painter.scene) []) (sym empty) (listed-none p.painter.view (scene_of bytes p.painter.scene));
 }
 
+-- What is told of a walk that was lent a bench and a list.
+pub record HasListedWalk (p q : ListerValue) (result : Result (Unit {0}) (WallStop Infallible)) : Type 0 where
+  pub asked : HasAsked dry_takes dry_stands dry_stopped p.painter q.painter result
+  pub name : q.name ≡ p.name
+  pub listed : OnOk result (IsListedView p.painter.view p.painter.scene q.list)
+
 -- the whole walk of a view
-pub lister-walked : (p q : ListerValue) (events : List Event) (result : Result (Unit {0}) OverLimit) →
-    HasWalkedNothing p.counter.view p.counter.scene p.counter.bench → p.list ≡ nothing_listed → ListerVisits p q events result → HasGathered p q events result
-lister-walked p q events (Ok unit) walked empty visits = visits.ok.each p [] (gathered_none p walked empty)
-lister-walked p q events (Err stop) walked empty visits =
-    let events_gathered = visits.err.each p [] (gathered_none p walked empty) in
-    record { counted = stopped_all p.counter q.counter visits.err.count events stop events_gathered.counted; name = events_gathered.name; listed = tt }
+pub lister-walked : (p q : ListerValue) (events : List Event) (result : Result (Unit {0}) (WallStop Infallible)) → events ≡ view_events p.painter.view (lists_of p.painter.scene) →
+    HasWalkedNothing p.painter.view p.painter.scene p.painter.bench → p.list ≡ nothing_listed → ListerVisits p q events result → HasListedWalk p q result
+lister-walked p q events (Ok unit) is walked empty visits =
+    let gathered = visits.ok.each p [] (gathered_none p walked empty) in
+    record {
+      asked = whole-walk p.painter q.painter events is gathered.painted;
+      name = gathered.name;
+      listed = subst (λ (es : List Event). IsListed p.painter.view p.painter.scene es q.list) is gathered.listed;
+    }
+lister-walked p q events (Err stop) is walked empty visits =
+    let gathered = visits.err.each p [] (gathered_none p walked empty) in
+    record { asked = stopped-all p.painter q.painter visits.err.count events stop is gathered.painted; name = gathered.name; listed = tt }
 
 -- a list that was lent for it is the view's
-pub listed-back : (v : ViewValue) (scene : SceneValue) (list now : WalkListValue) (result : Result (Unit {0}) OverLimit) → list ≡ now → OnOk result (IsListedView v scene now) → OnOk result (IsListedView v scene list)
+pub listed-back : {E : Type 0} (v : ViewValue) (scene : SceneValue) (list now : WalkListValue) (result : Result (Unit {0}) E) → list ≡ now → OnOk result (IsListedView v scene now) → OnOk result (IsListedView v scene list)
 listed-back v scene list now result is h = subst (λ (l : WalkListValue). OnOk result (IsListedView v scene l)) (sym is) h
 
 abbrev made_list : List ListedFragment → List ListedPlane → List ListedSprite → ℕ → ℕ → ViewListValue

@@ -1,25 +1,23 @@
 -- Laws of the masked pass of a view: what it asks is there where the walk is in the bench, and what it paints is what the picture has.
-use Rattle.picture_rules.proofs.Common.{[], All, All-contains, AllPass, ap, arith, get_or, length, List, list_any, nat_tests, or_right, Result, subst, sym, true, ℕ, ℤ, ⊤, ◌<◌, ◌==◌, ◌∙◌, ◌≡◌}
-use Rattle.frame_core.specs.Rules.{AreNoted, Dot, FragmentNote, Heap, IsSound, LevelValue, Painter, Plane, Scene, SceneValue, Sector, Seg, Side, SpriteEntry, ViewValue, book_lumps, draw_order, has_flat, lump_bytes, masked_dots, view_drawsegs, view_entries, view_events, walls_of}
-use Rattle.texture_build.specs.{CacheFault.CacheFault, Caches.cache_fault}
+use Rattle.picture_rules.proofs.Common.{All, All-contains, AllPass, ap, arith, get_or, length, List, list_any, nat_tests, or_right, subst, sym, true, ℕ, ℤ, ◌<◌, ◌==◌, ◌∙◌, ◌≡◌}
+use Rattle.frame_core.specs.Rules.{AreNoted, Dot, Drawseg, FragmentNote, Heap, IsSound, LevelValue, Plane, Scene, SceneValue, Sector, Seg, Side, SpriteEntry, ViewValue, book_lumps, draw_order, has_flat, masked_dots, view_drawsegs, view_entries, view_events, view_notes, walls_of}
 use Rattle.texture_build.specs.{DirectoryView.DirectoryView, Arts.view_art}
-use Rattle.texture_build.specs.Paints.{PaintState, Paints, paint_tools}
 use Rattle.texture_build.specs.Views.{TexturesView}
-use Rattle.texture_build.proofs.DrawLemmas.{IsMapped}
-use Rattle.texture_build.proofs.PaintLemmas.{paints-mapped, paints-same, paints-wider}
 use Rattle.sound_scene.specs.Sound.{middles_of, textures_view}
 use Rattle.vissprites.specs.Bounds.{has_lump_below, lies_within}
 use Rattle.wall_columns.specs.Built.{IsBuilt}
 use Rattle.masked_draw.specs.Lists.{MaskedLists, lists_of as lists_by, noted_drawsegs}
-use Rattle.masked_draw.specs.Ready.{IsListed, IsNotedMiddle, IsSpriteLump}
-use Rattle.frame_core.specs.{declared.bench.Bench.Bench, declared.fault.ViewFault.ViewFault}
-use Rattle.frame_core.specs.{Faults.from_cache, Walked.planes_after, Painters.HasWalkedView}
+use Rattle.masked_draw.specs.Ready.{IsInLists, IsListed, IsSpriteLump}
+use Rattle.masked_draw.specs.Strips.{masked_strips}
+use Rattle.frame_core.specs.{declared.bench.Bench.Bench}
+use Rattle.frame_core.specs.{Walked.planes_after, Painters.HasWalkedView}
 use Rattle.sound_scene.specs.Pictures.{lists_of, scene_of}
-use Rattle.frame_core.specs.Views.{CanDrawView, IsViewLump, PaintsView, held_scene, view_scene}
-use Rattle.frame_core.proofs.DrawsegLemmas.{mask_lists, masked_dots-noted}
+use Rattle.frame_core.specs.Views.{CanDrawView, IsViewLump}
+use Rattle.frame_core.specs.Parts.{AreNotesListed}
+use Rattle.frame_core.specs.ViewStrips.{mask_lists, no_bytes, scene_entries, scene_noted, scene_walls}
+use Rattle.frame_core.proofs.DrawsegLemmas.{masked_dots-noted}
 use Rattle.frame_core.proofs.EntryLemmas.{entry_lump}
-use Rattle.frame_core.proofs.ListedLemmas.{middle_prepared, notes_listed}
-use Rattle.frame_core.proofs.PaintLemmas.{cache_above}
+use Rattle.frame_core.proofs.ListedLemmas.{notes_listed}
 
 -- what the masked pass is drawn with
 pub record MaskParts : Type 0 where
@@ -46,12 +44,6 @@ parts-same s b level textures colormap segs sides sectors middles openings notes
     let by_sectors = sectors ∙ ap (λ (l : LevelValue). l.sectors) level in
     λ i. mask_parts (textures i) (colormap i) (by_segs i) (by_sides i) (by_sectors i) (middles i) (openings i) (notes i)
 
--- what a call of the masked pass with these parts paints
-abbrev pub DrawsMasks : (Painter → ℕ → ℕ) → ViewValue → DirectoryView → List SpriteEntry → MaskParts → PaintState → PaintState → Result (Unit {0}) CacheFault → Type 0
-DrawsMasks mark v dir sprites parts old new result =
-    Paints {Q = Unit {0}} cache_fault mark (paint_tools dir parts.textures parts.colormap) (IsNotedMiddle parts.lists parts.openings parts.notes) (IsSpriteLump sprites) (λ q. ⊤)
-    (λ contents q. masked_dots v (view_art (lump_bytes contents dir.lumps) parts.textures parts.colormap) (noted_drawsegs v parts.textures parts.lists parts.openings parts.notes) (draw_order sprites)) old new result
-
 -- the dots of the masked pass of a view
 abbrev pub masks_dots : ViewValue → SceneValue → Scene → List Dot
 masks_dots v s scene =
@@ -61,9 +53,6 @@ masks_dots v s scene =
 lump_below : (n : ℕ) (e : SpriteEntry) → has_lump_below n e ≡ true → e.lump < n
 unfolding has_lump_below
 lump_below n e on = grind (arith, nat_tests)
-
-pub no_bytes : ℕ → List ℕ
-no_bytes n = []
 
 -- the notes are noted in the parts
 pub parts-noted : (v : ViewValue) (s : SceneValue) (b : Bench) {parts : MaskParts} → parts ≡ parts_of s b → AreNoted v.shape b.walls.notes b.walls.openings → AreNoted v.shape parts.notes parts.openings
@@ -96,7 +85,7 @@ module _ {v : ViewValue} {s : SceneValue} {b : Bench} {z : Heap} (dir : Director
   pub sprites-below : AllPass (has_lump_below (length dir.lumps)) b.sprites
   sprites-below = (walked no_bytes).lumps (length dir.lumps) can.drawable.pictures
 
-  sprite_lump : (lump : ℕ) → IsSpriteLump b.sprites lump → IsViewLump dir.lumps s lump
+  pub sprite_lump : (lump : ℕ) → IsSpriteLump b.sprites lump → IsViewLump dir.lumps s lump
   sprite_lump lump k =
       let is_walked = walked no_bytes in
       let is_book_lump : ℕ → Type 0 = λ (m : ℕ). list_any (λ n. n == m) (book_lumps s.book) ≡ true in
@@ -116,11 +105,25 @@ module _ {v : ViewValue} {s : SceneValue} {b : Bench} {z : Heap} (dir : Director
       masked_dots-noted bytes v s can.drawable.flats (scene_of bytes s).art (view_events v (lists_of s)) b.walls.notes b.walls.openings (draw_order b.sprites) is_walked.built.notes is_walked.built.openings
       ∙ ap (λ (es : List SpriteEntry). masked_dots v (scene_of bytes s).art (view_drawsegs v (scene_of bytes s) (walls_of v (scene_of bytes s) (view_events v (lists_of s)))) (draw_order es)) is_walked.sprites
 
--- a call of the masked pass paints that of the view, its faults told as those of a view
-pub masks-above : {mark : Painter → ℕ → ℕ} {v : ViewValue} {s : SceneValue} {b : Bench} {dir : DirectoryView} {old new : PaintState} {lower : Result (Unit {0}) CacheFault} {whole : Result (Unit {0}) ViewFault} {parts : MaskParts} → parts ≡ parts_of s b →
-    IsSound s.base.level → CanDrawView dir.lumps s old.cache → HasWalkedView v s b → IsMapped from_cache lower whole → DrawsMasks mark v dir b.sprites parts old new lower → PaintsView mark (view_scene v s dir) (masks_dots v s) old new whole
-masks-above {mark} {v} {s} {b} {dir} {old} {new} {lower} {whole} same sound can walked mapped draws =
-    let draws_scene_masks : DrawsMasks mark v dir b.sprites (parts_of s b) old new lower = subst (λ (p : MaskParts). DrawsMasks mark v dir b.sprites p old new lower) same draws in
-    paints-mapped (λ (never : ⊥). absurd never) from_cache cache_above lower whole mapped
-    (paints-wider (λ number own k. middle_prepared dir.lumps s old.cache b.walls.openings b.walls.notes number own (scene_notes dir sound can walked) k) (λ lump k. sprite_lump dir sound can walked lump k)
-    (paints-same (λ contents q. masks_dots v s (held_scene contents (view_scene v s dir))) (λ contents q asked. same_dots dir sound can walked (lump_bytes contents dir.lumps)) draws_scene_masks))
+module _ (v : ViewValue) (s : SceneValue) (b : Bench) {parts : MaskParts} (same : parts ≡ parts_of s b) (walked : HasWalkedView v s b) where
+  -- the notes that are in the lists are in the parts
+  pub parts-in : AreNotesListed v s → All (IsInLists (length parts.textures.lists.textures) parts.lists) parts.notes
+  parts-in listed =
+      subst (λ (p : MaskParts). All (IsInLists (length p.textures.lists.textures) p.lists) p.notes) (sym same)
+      (subst (All (IsInLists (length s.base.lists.textures) (mask_lists s))) (sym (walked no_bytes).built.notes) listed)
+
+  -- the drawn fragments as the pass reads them, and its strips
+  pub masks-noted : noted_drawsegs v parts.textures parts.lists parts.openings parts.notes ≡ scene_noted v s
+  masks-noted =
+      ap (λ (p : MaskParts). noted_drawsegs v p.textures p.lists p.openings p.notes) same
+      ∙ ap (λ (ns : List FragmentNote). noted_drawsegs v (textures_view s) (mask_lists s) b.walls.openings ns) (walked no_bytes).built.notes
+      ∙ ap (λ (os : List ℤ). noted_drawsegs v (textures_view s) (mask_lists s) os (view_notes v (scene_walls v s))) (walked no_bytes).built.openings
+
+  pub masks-same : masked_strips v (noted_drawsegs v parts.textures parts.lists parts.openings parts.notes) (draw_order b.sprites) ≡ masked_strips v (scene_noted v s) (draw_order (scene_entries v s))
+  masks-same =
+      ap (λ (ds : List Drawseg). masked_strips v ds (draw_order b.sprites)) masks-noted
+      ∙ ap (λ (es : List SpriteEntry). masked_strips v (scene_noted v s) (draw_order es)) (walked no_bytes).sprites
+
+-- the vissprites of a bench are the view's
+pub entries-same : (v : ViewValue) (s : SceneValue) (b : Bench) → HasWalkedView v s b → b.sprites ≡ scene_entries v s
+entries-same v s b walked = (walked no_bytes).sprites

@@ -1,11 +1,11 @@
 -- What a view asks of a scene that has all that drawing asks of it.
 use Rattle.picture_rules.proofs.Common.{[], All, All-head, All-nil, All-tail, ap, arith, Bool, cond, Err, false, get_or, IfSome, inl, inr, IsSome, length, length-map, List, list_any_at, nat_tests, None, Ok, ok_or, Option, option_and_then, option_map, pos, refl, Result, Some, subst, suc, sym, true, unwrap_or, zero, ℕ, ◌<◌, ◌||◌, ◌∙◌, ◌∷◌, ◌≡◌, ◌≤◌, ◌⊎◌}
-use Rattle.frame_core.specs.Rules.{Faces, Flat, IsSound, LevelValue, Lump, PlacedPatch, PreparedTexture, SKY_FLAT, SceneValue, Sector, SectorFlats, Surface, Texture, TextureLists, ThingLine, WallFacts, and_then, book_lumps, both_flats, each_from, each_or, faces_in, facts_of, flat_named, flat_number, flats_of, found_sky, has_sky, is_sky, is_sky_name, lump_flat, no_seg, no_surface, no_textures, sector_flats, seg_at, shows_sky, side_textures, sky_name, sky_texture, surface_at, surface_of, surfaces_of, texture_number, textures_at, wall_texture}
+use Rattle.frame_core.specs.Rules.{Faces, Flat, IsSound, LevelValue, Lump, PlacedPatch, PreparedTexture, SKY_FLAT, SceneValue, Sector, SectorFlats, Surface, Texture, TextureLists, ThingLine, WallFacts, and_then, both_flats, each_from, each_or, faces_in, facts_of, flat_named, flat_number, flats_of, found_sky, has_sky, is_sky, is_sky_name, lump_flat, no_seg, no_surface, no_textures, sector_flats, seg_at, shows_sky, side_textures, sky_name, sky_texture, surface_at, surface_of, surfaces_of, texture_number, textures_at, wall_texture}
 use Rattle.art_rules.proofs.Laws.{and_then-ok}
 use Rattle.scene_rules.specs.declared.Flat.TheVariants.{Sky, Lump as LumpFlat}
 use Rattle.scene_rules.proofs.SkyLemmas.{sky_is_listed}
 use Rattle.texture_build.specs.Views.{ArePatchesThere, IsPrepared, prepared_at, unprepared}
-use Rattle.level_scene.specs.Bounds.{AreThere, IsNoneOrBelow, IsThere}
+use Rattle.level_scene.specs.Bounds.{IsNoneOrBelow, IsThere}
 use Rattle.sound_scene.specs.Sound.{middles_of, textures_view}
 use Rattle.sound_scene.specs.Whole.{IsNoneOrPrepared, IsWholeScene}
 use Rattle.sound_scene.specs.Pictures.{lists_of, scene_of}

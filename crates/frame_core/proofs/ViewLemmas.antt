@@ -1,34 +1,22 @@
 -- Laws of a whole view: its three parts in order, where its dots lie, what ends it, and the frame that it leaves.
-use Rattle.picture_rules.proofs.Common.{All, AllPass, ap, arith, Bor, Err, get_or, IfErr, IfSome, IsErrAnd, length, length-replicate, List, None, Ok, OnOk, Option, refl, replicate, Result, Some, subst, suc, sym, zero, ℕ, ◌++◌, ◌∙◌, ◌≡◌, ◌≤◌, ℤ}
-use Rattle.frame_core.specs.Rules.{AreInView, Dot, FRAME_CELLS, FRAME_HEIGHT, Fault, FaultsRose, FitsFrame, Heap, IsWithinFrame, Limits, OverLimit, Painter, Plane, Scene, SceneValue, ShelfView, SpriteEntry, ViewShape, ViewValue, draw_order, lump_bytes, masked_dots, paints_by, paints_of, picture, planes_dots, planes_of, view_drawsegs, view_entries, view_events, view_over, view_paints, view_planes, view_steps, walls_dots, walls_of}
+use Rattle.picture_rules.proofs.Common.{All, AllPass, ap, arith, Err, get_or, IfErr, IfSome, IsErrAnd, length, length-replicate, List, None, Ok, OnOk, Option, refl, replicate, Result, Some, subst, suc, sym, zero, ℕ, ◌++◌, ◌∙◌, ◌≡◌, ◌≤◌, ℤ}
+use Rattle.frame_core.specs.Rules.{AreInView, Dot, FRAME_CELLS, FRAME_HEIGHT, Fault, FaultsRose, FitsFrame, Heap, IsWithinFrame, Limits, OverLimit, Painter, Plane, Scene, SceneValue, ShelfView, SpriteEntry, ViewShape, ViewValue, draw_order, masked_dots, paints_by, paints_of, picture, planes_dots, planes_of, view_drawsegs, view_entries, view_events, view_over, view_paints, view_planes, view_steps, walls_dots, walls_of}
 use Rattle.pixel_strips.specs.Canvases.{CanvasView, marked_by_colour, placed_at}
 use Rattle.pixel_strips.specs.Dotted.{HasDots}
 use Rattle.texture_build.specs.{DirectoryView.DirectoryView, Draws.HoldsArt, Views.TexturesView}
 use Rattle.vissprites.specs.Bounds.{lies_within}
 use Rattle.vissprites.proofs.BoundLemmas.{draw_order-all}
 use Rattle.texture_build.specs.Paints.{PaintState, PaintTools, Paints, paint_state}
-use Rattle.texture_build.proofs.PaintLemmas.{paints-same, paints-then}
-use Rattle.sound_scene.specs.{Sound.SoundValue, Pictures.lists_of, Pictures.scene_of}
+use Rattle.sound_scene.specs.{Pictures.lists_of, Pictures.scene_of}
 use Rattle.picture_rules.proofs.FrameLemmas.{frame_of-put_dots, in_view-append}
 use Rattle.frame_core.specs.{declared.bench.Bench.Bench, declared.fault.ViewFault.ViewFault}
-use Rattle.frame_core.specs.{declared.tools.ViewTools.ViewTools, Faults.limit_of_view}
-use Rattle.frame_core.specs.Views.{CanDrawView, PaintsView, ViewScene, held_scene, tools_scene, view_scene}
+use Rattle.frame_core.specs.{Faults.limit_of_view}
+use Rattle.frame_core.specs.Views.{PaintsView, view_scene}
 use Rattle.frame_core.specs.Walked.{planes_after}
 use Rattle.frame_core.specs.Painters.{HasWalkedView, IsPlacedIn, drawn_walls}
 use Rattle.frame_core.proofs.{FloorLemmas.floors_of, MaskLemmas.masks_dots}
 use Rattle.frame_core.proofs.PartDotLemmas.{LiesInView, planes-in_view, walls-in_view}
 use Rattle.frame_core.proofs.ViewDotLemmas.{drawsegs-in_view, masked-in_view}
-
--- tools read the view, the scene and the directory that others read
-abbrev pub ReadsAlike : {S C : Type 0} → ViewTools S C → ViewTools S C → Type 0
-ReadsAlike old new = (new.view.now ≡ old.view.now) × ((new.scene.now.scene ≡ old.scene.now.scene) × (new.dir.now ≡ old.dir.now))
-
-pub reads-alike : {scene scene' : Bor SoundValue} {view view' : Bor ViewValue} {dir dir' : Bor DirectoryView} → (scene' ≡ scene) × ((view' ≡ view) × (dir' ≡ dir)) →
-    (view'.now ≡ view.now) × ((scene'.now.scene ≡ scene.now.scene) × (dir'.now ≡ dir.now))
-reads-alike same = (ap (λ (r : Bor ViewValue). r.now) same.1.0, (ap (λ (r : Bor SoundValue). r.now.scene) same.0, ap (λ (r : Bor DirectoryView). r.now) same.1.1))
-
-pub reads-then : {S C : Type 0} (a b c : ViewTools S C) → ReadsAlike a b → ReadsAlike b c → ReadsAlike a c
-reads-then a b c one two = (two.0 ∙ one.0, (two.1.0 ∙ one.1.0, two.1.1 ∙ one.1.1))
 
 -- the place of a view of that shape
 pub placed-as : (v : ViewValue) (shape : ViewShape) (old now : CanvasView) → shape ≡ v.shape → now ≡ placed_at shape.left shape.top old → now ≡ placed_at v.shape.left v.shape.top old
@@ -41,29 +29,10 @@ placed-frame v shape old now same frame place =
     subst (IsPlacedIn v) (sym (placed-as v shape old now same place)) (record { columns = shape_in_frame.width; rows = shape_in_frame.height })
 
 -- the three parts of a view are its paints
-view_parts : (v : ViewValue) (bytes : ℕ → List ℕ) (s : SceneValue) →
+pub view-parts : (v : ViewValue) (bytes : ℕ → List ℕ) (s : SceneValue) →
     drawn_walls v (view_events v (lists_of s)) (scene_of bytes s) ++ (floors_of v s (scene_of bytes s) ++ masks_dots v s (scene_of bytes s)) ≡ view_paints v (scene_of bytes s)
 unfolding view_paints paints_of paints_by view_steps scene_of
-view_parts v bytes s = refl
-
--- a part of the view by tools that read alike
-pub part-at : {S C D : Type 0} {mark : Painter → ℕ → ℕ} (dots : ViewValue → SceneValue → Scene → List Dot) (old new : ViewTools S C) {a b : PaintState} {result : Result D ViewFault} → ReadsAlike old new →
-    PaintsView mark (tools_scene new) (dots new.view.now new.scene.now.scene) a b result → PaintsView mark (tools_scene old) (dots old.view.now old.scene.now.scene) a b result
-part-at {mark = mark} dots old new {a} {b} {result} same paint =
-    subst (λ (s : ViewScene). PaintsView mark s (dots s.view s.scene) a b result) (λ i. view_scene (same.0 i) (same.1.0 i) (same.1.1 i)) paint
-
-pub drawable-at : (dir e : DirectoryView) (s t : SceneValue) (z : Heap) → e ≡ dir → t ≡ s → CanDrawView dir.lumps s z → CanDrawView e.lumps t z
-drawable-at dir e s t z p q can =
-    subst (λ (y : SceneValue). CanDrawView e.lumps y z) (sym q) (subst (λ (d : DirectoryView). CanDrawView d.lumps s z) (sym p) can)
-
-pub walked-at : (v w : ViewValue) (s t : SceneValue) (b : Bench) → w ≡ v → t ≡ s → HasWalkedView v s b → HasWalkedView w t b
-walked-at v w s t b p q walked = subst (λ (y : SceneValue). HasWalkedView w y b) (sym q) (subst (λ (x : ViewValue). HasWalkedView x s b) (sym p) walked)
-
--- walls, planes and the masked pass, one after the other, paint the view
-pub parts-paint : {mark : Painter → ℕ → ℕ} (s : ViewScene) {a b c d : PaintState} {A B D : Type 0} {one : A} {two : B} {result : Result D ViewFault} →
-    PaintsView mark s (drawn_walls s.view (view_events s.view (lists_of s.scene))) a b (Ok one) → PaintsView mark s (floors_of s.view s.scene) b c (Ok two) → PaintsView mark s (masks_dots s.view s.scene) c d result →
-    PaintsView mark s (view_paints s.view) a d result
-parts-paint s walls planes masks = paints-same (λ contents q. view_paints s.view (held_scene contents s)) (λ contents q asked. view_parts s.view (lump_bytes contents s.dir.lumps) s.scene) (paints-then walls (paints-then planes masks))
+view-parts v bytes s = refl
 
 -- what was painted from where the view was placed
 pub paints-placed : {A R E Q : Type 0} {fault_of : E → Fault R} {mark : Painter → ℕ → ℕ} {t : PaintTools} {among : ℕ → ℤ → Type 0} {pictures : ℕ → Type 0} {asked : Q → Type 0} {dots : List (List ℕ) → Q → List Dot} {shelf : ShelfView} {z : Heap} {b : PaintState} {result : Result A E}
@@ -90,7 +59,7 @@ in_view-walked v bytes s b frame walked =
     let all_within_view : AllPass (lies_within v.shape.width) entries = subst (λ (es : List SpriteEntry). AllPass (lies_within v.shape.width) es) bench_walked.sprites bench_walked.columns in
     let drawsegs = view_drawsegs v scene (walls_of v scene events) in
     let planes = view_planes (view_steps v scene events) in
-    subst (AreInView v.shape) (view_parts v bytes s)
+    subst (AreInView v.shape) (view-parts v bytes s)
     (in_view-append v.shape (walls_dots v scene (walls_of v scene events)) (planes_dots v scene planes ++ masked_dots v scene.art drawsegs (draw_order entries))
     (walls-in_view v scene events low bench_walked.built.drawn)
     (in_view-append v.shape (planes_dots v scene planes) (masked_dots v scene.art drawsegs (draw_order entries))

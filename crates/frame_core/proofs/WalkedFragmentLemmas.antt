@@ -6,8 +6,8 @@ use Rattle.picture_rules.proofs.wall.NoteLemmas.{length-saved_openings, openings
 use Rattle.picture_rules.proofs.ThingLemmas.{view_entries-fragment}
 use Rattle.visplanes.specs.Planes.{PlanesView}
 use Rattle.wall_columns.specs.Built.{IsBuilt, limits_of, step_of_wall, step_over, with_wall}
-use Rattle.wall_columns.specs.{Faults.limit_of_result, Walls.WallsView}
-use Rattle.wall_columns.specs.declared.fault.DrawFault.{DrawFault}
+use Rattle.wall_columns.specs.{Faults.over_of_stop, Walls.WallsView}
+use Rattle.wall_columns.specs.declared.fault.WallStop.{WallStop}
 use Rattle.frame_core.specs.declared.bench.Bench.{Bench}
 use Rattle.sound_scene.specs.Pictures.{lists_of, scene_of}
 use Rattle.frame_core.specs.Walked.{HasWalked, IsEventIn, IsPlaneIn, next_wall, planes_after}
@@ -183,8 +183,8 @@ walked-fragment v bytes scene most events seg first last facts old planes walls 
     ]
 
 -- by the answer of the call
-pub walked-range : (v : ViewValue) (bytes : ℕ → List ℕ) (scene : SceneValue) (most : Limits) (events : List Event) (seg first last : ℕ) (facts : WallFacts) (old : Bench) (planes : PlanesView) (walls : WallsView) (result : Result (Unit {0}) DrawFault) →
-    v.shape.height ≤ FRAME_HEIGHT → TakesFragment v scene seg first last facts old planes walls (limit_of_result result) →
+pub walked-range : {E : Type 0} (v : ViewValue) (bytes : ℕ → List ℕ) (scene : SceneValue) (most : Limits) (events : List Event) (seg first last : ℕ) (facts : WallFacts) (old : Bench) (planes : PlanesView) (walls : WallsView) (result : Result (Unit {0}) (WallStop E)) →
+    v.shape.height ≤ FRAME_HEIGHT → TakesFragment v scene seg first last facts old planes walls (over_of_stop result) →
     ((ws : List Wall) (s : PlanesNow) → IsBuilt v ws s old.walls old.planes.planes → length ws < MAX_DRAWSEGS →
     OnOk result (IsBuilt v (with_wall ws (wall_of v facts first last)) (after_event s (step_of_wall v ws (wall_of v facts first last)).event) walls planes.planes)) →
     HasWalked v bytes scene most events old → OnOk result (HasWalked v bytes scene most (events ++ FragmentEvent seg first last ∷ []) (bench_of planes walls old.sprites old.entered old.sector))

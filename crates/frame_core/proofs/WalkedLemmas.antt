@@ -1,13 +1,12 @@
 -- Laws of a bench as a list of events makes it: no event, and a leaf more.
-use Rattle.picture_rules.proofs.Common.{[], All, All-nil, All-push, AllPass, ap, Bool, eqb-true, Err, false, IsErrAnd, length, List, list_any, list_any-append, map, map-append, None, Ok, Option, or-false, refl, Result, subst, sym, true, ℕ, ◌++◌, ◌<◌, ◌==◌, ◌||◌, ◌∙◌, ◌∷◌, ◌≡◌}
-use Rattle.frame_core.specs.Rules.{Event, LeafEvent, Limits, Plane, PlaneKey, PlanesNow, Scene, SceneValue, SpriteEntry, Step, ViewValue, Wall, after_event, book_lumps, ceiling_key, first_mentions, floor_key, is_entered, last_leaf, leaf_at, leaf_sector, leaf_step, leaf_surface, leaves_entered, no_planes, openings_list, openings_past, saved_from, sectors_entered, steps_over, surface_at, view_entries, view_steps, walls_of, with_sectors}
+use Rattle.picture_rules.proofs.Common.{[], All, All-nil, All-push, AllPass, ap, Bool, eqb-true, Err, false, IsErrAnd, length, List, list_any, list_any-append, map, map-append, None, Ok, Option, or-false, refl, Result, Some, subst, sym, true, ℕ, ◌++◌, ◌<◌, ◌==◌, ◌||◌, ◌∙◌, ◌∷◌, ◌≡◌}
+use Rattle.frame_core.specs.Rules.{Event, LeafEvent, Limits, OverLimit, Plane, PlaneKey, PlanesNow, Scene, SceneValue, SpriteEntry, Step, ViewValue, Wall, after_event, book_lumps, ceiling_key, first_mentions, floor_key, is_entered, last_leaf, leaf_at, leaf_sector, leaf_step, leaf_surface, leaves_entered, no_planes, openings_list, openings_past, saved_from, sectors_entered, steps_over, surface_at, view_entries, view_steps, walls_of, with_sectors}
 use Rattle.picture_rules.proofs.Laws.{last_leaf-append, leaves_entered-append}
 use Rattle.picture_rules.proofs.ThingLemmas.{view_entries-again, view_entries-new}
 use Rattle.visplanes.specs.Planes.{PlanesView}
 use Rattle.vissprites.specs.Bounds.{has_lump_below, lies_within}
 use Rattle.wall_columns.specs.Built.{IsBuilt, limits_of, step_of_leaf, step_over}
-use Rattle.wall_columns.specs.{Faults.limit_of_fault, Faults.limit_of_result, Walls.WallsView}
-use Rattle.wall_columns.specs.declared.fault.DrawFault.{DrawFault}
+use Rattle.wall_columns.specs.{Faults.over_of, Walls.WallsView}
 use Rattle.frame_core.specs.{declared.bench.Bench.Bench, Entered.has_entered}
 use Rattle.sound_scene.specs.Pictures.{lists_of, scene_of}
 use Rattle.frame_core.specs.Walked.{HasWalked, IsEventIn, IsPlaneIn, planes_after, with_sector}
@@ -239,9 +238,9 @@ same_limits a b p q e f =
     ap (λ (n : ℕ). let limits_now : Limits = record { planes = q.room; openings = n } in limits_now) e ∙ ap (λ (n : ℕ). let limits_now : Limits = record { planes = n; openings = a.room } in limits_now) f
 
 -- an error that is passed on tells the same limit
-pub limit-stop : {A B : Type 0} (part : Result A DrawFault) (fault : DrawFault) (whole : Result B DrawFault) → part ≡ Err fault → IsErrAnd whole (λ e. e ≡ fault) → limit_of_result whole ≡ limit_of_result part
-limit-stop part fault (Ok value) was is = absurd is
-limit-stop part fault (Err e) was is = ap limit_of_fault is ∙ sym (ap limit_of_result was)
+pub over-passed : {A B : Type 0} (part : Result A OverLimit) (over : OverLimit) (whole : Result B OverLimit) → part ≡ Err over → IsErrAnd whole (λ e. e ≡ over) → over_of whole ≡ over_of part
+over-passed part over (Ok value) was is = absurd is
+over-passed part over (Err e) was is = ap (λ (o : OverLimit). Some o) is ∙ sym (ap over_of was)
 
 -- what the two calls of a leaf give, where the second leaves walls and planes as they are
 pub enters-leaf : (v : ViewValue) (scene : SceneValue) (n sector : ℕ) (floor ceiling : Option PlaneKey) (old between new : Bench) → new.walls ≡ between.walls → new.planes ≡ between.planes → new.sector ≡ between.sector →

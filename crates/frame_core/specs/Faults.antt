@@ -4,21 +4,19 @@ use Rattle.frame_core.specs.{Rules.Fault, Rules.OverLimit, declared.fault.ViewFa
 use Rattle.art_rules.specs.Fault.TheVariants as fault
 use Rattle.texture_build.specs.CacheFault.{CacheFault}
 use Rattle.texture_build.specs.CacheFault.TheVariants as cache
-use Rattle.picture_rules.specs.declared.LimitKind.TheVariants as kind
-use Rattle.wall_columns.specs.declared.fault.DrawFault.{DrawFault}
-use Rattle.wall_columns.specs.declared.fault.DrawFault.TheVariants as draw
+use Rattle.wall_columns.specs.declared.fault.WallStop.{WallStop}
+use Rattle.wall_columns.specs.declared.fault.WallStop.TheVariants.{Brush, Over}
 use Rattle.frame_core.specs.declared.fault.ViewFault.TheVariants.{Limit, ZoneFull, ReadFault}
 
--- the faults of the cache and of walls, here
+-- the faults of the cache, here
 abbrev pub from_cache : CacheFault → ViewFault
 from_cache (cache.ZoneFull wanted widest) = ZoneFull wanted widest
 from_cache cache.ReadFault = ReadFault
 
-abbrev pub from_draw : DrawFault → ViewFault
-from_draw (draw.Planes count) = Limit kind.Planes count
-from_draw (draw.Openings count) = Limit kind.Openings count
-from_draw (draw.ZoneFull wanted widest) = ZoneFull wanted widest
-from_draw draw.ReadFault = ReadFault
+-- what ends a view that a brush paints on a canvas
+abbrev pub from_stop : WallStop CacheFault → ViewFault
+from_stop (Over over) = Limit over.kind over.count
+from_stop (Brush fault) = from_cache fault
 
 abbrev pub view_fault : ViewFault → Fault OverLimit
 view_fault (Limit kind count) = fault.Refused (record { kind = kind; count = count })

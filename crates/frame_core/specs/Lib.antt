@@ -3,7 +3,9 @@ pub mod Faults
 pub mod Views
 pub mod Ends
 pub mod Walked
+pub mod ViewStrips
 pub mod Painters
+pub mod Parts
 pub mod ViewLists
 pub mod Listers
 pub mod Workshops

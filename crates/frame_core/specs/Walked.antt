@@ -1,10 +1,10 @@
 -- The walls, planes and vissprites of a view as a list of events makes them.
-use Rattle.std.specs.Prelude.{◌≡◌, ◌≤◌, ◌<◌, ◌⊎◌, ◌||◌, ℕ, Bool, true, false, nat_lt, cond, List, [], All, None, length, map}
+use Rattle.std.specs.Prelude.{◌≡◌, ◌≤◌, ◌<◌, ◌⊎◌, ◌||◌, ℕ, Bool, true, false, List, All, None, length, map}
 use Rattle.std.specs.List.{AllPass}
-use Rattle.frame_core.specs.Rules.{Dot, Event, Flat4, FragmentEvent, IsAmongPlanes, LeafEvent, Limits, MAX_DRAWSEGS, Plane, PlanesNow, Scene, SceneValue, SpriteEntry, Step, Surface, ViewShape, ViewValue, Wall, after_events, book_lumps, facts_of, holds, is_entered, is_sky, last_leaf, leaf_sector, leaf_surface, no_planes, openings_after, seg_at, steps_over, surface_at, view_entries, view_steps, wall_dots, wall_of, walls_of, with_things}
+use Rattle.frame_core.specs.Rules.{Event, Flat4, FragmentEvent, IsAmongPlanes, LeafEvent, Limits, Plane, PlanesNow, Scene, SceneValue, SpriteEntry, Step, Surface, ViewShape, ViewValue, Wall, after_events, book_lumps, facts_of, holds, is_entered, is_sky, last_leaf, leaf_sector, leaf_surface, no_planes, openings_after, seg_at, steps_over, surface_at, view_entries, view_steps, wall_of, walls_of, with_things}
 use Rattle.picture_rules.specs.declared.plane.Flat4.TheVariants.{Sky, Lump}
 use Rattle.vissprites.specs.Bounds.{lies_within, has_lump_below}
-use Rattle.wall_columns.specs.Built.{IsBuilt, limits_of, with_wall}
+use Rattle.wall_columns.specs.Built.{IsBuilt, limits_of}
 use Rattle.frame_core.specs.{declared.bench.Bench.Bench, Entered.has_entered}
 use Rattle.sound_scene.specs.Pictures.{lists_of, scene_of}
 
@@ -18,13 +18,6 @@ IsEventIn v scene (FragmentEvent seg first last) =
 unfoldable pub next_wall : ViewValue → Scene → List Event → ℕ → ℕ → ℕ → Wall
 next_wall v scene events seg first last =
     wall_of v (facts_of scene (leaf_surface scene (last_leaf 0 events)) seg (seg_at scene.level seg)) first last
-
--- its dots, where it is drawn: none past the most fragments that a view keeps
-unfoldable pub next_dots : ViewValue → Scene → List Event → ℕ → ℕ → ℕ → List Dot
-next_dots v scene events seg first last =
-    cond (nat_lt (length (walls_of v scene events)) MAX_DRAWSEGS)
-    (wall_dots v scene.art (with_wall (walls_of v scene events) (next_wall v scene events seg first last))
-    (length (walls_of v scene events)) (next_wall v scene events seg first last)) []
 
 -- the vissprites with those of a sector's things, where it was not entered before
 unfoldable pub with_sector : ViewValue → Scene → Bool → ℕ → List SpriteEntry → List SpriteEntry

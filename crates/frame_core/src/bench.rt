@@ -3,36 +3,32 @@
 //
 // Rules: `specs/Walked`; `picture_rules`, Walls, Planes, Things and Counts. The original:
 // `R_Subsector`, r_bsp.c.
-ghost use Rattle.std.specs.Prelude.{◌≡◌, ◌≤◌, ◌<◌, ◌+◌, ◌++◌, ◌∷◌, ◌==◌, ℕ, true, false, List, [], All, IfOk, IfErr, IfSome, OnOk, length, Some};
+ghost use Rattle.std.specs.Prelude.{◌≡◌, ◌≤◌, ◌<◌, ◌+◌, ◌++◌, ◌∷◌, ◌==◌, ℕ, true, false, List, [], All, IfOk, OnOk, length};
 ghost use Rattle.std.specs.List.{AllPass};
-ghost use Rattle.frame_core.specs.Rules.{Event, FRAME_HEIGHT, FragmentEvent, LeafEvent, Limits, MAX_DRAWSEGS, MOST_OPENINGS, MOST_VISPLANES, book_lumps, ceiling_key, floor_key, leaf_at, steps_over, surface_at, view_steps};
+ghost use Rattle.frame_core.specs.Rules.{Event, FragmentEvent, IsSound, LeafEvent, Limits, MAX_DRAWSEGS, MOST_OPENINGS, MOST_VISPLANES, book_lumps, ceiling_key, floor_key, leaf_at, steps_over, surface_at, view_steps};
+ghost use Rattle.receiver_rules.specs.Receivers.{StillTakes};
 ghost use Rattle.vissprites.specs.Bounds.{lies_within, has_lump_below};
 ghost use Rattle.wall_columns.specs.Built.{limits_of};
-ghost use Rattle.wall_columns.specs.Faults.{limit_of_result, IsLimitFault};
-ghost use Rattle.texture_build.specs.Caches.{KeepsCounts};
-ghost use Rattle.pixel_strips.specs.Dotted.{PlacedAlike};
+ghost use Rattle.wall_columns.specs.Faults.{ReceivesUnlessOver, over_of, over_of_stop};
 ghost use Rattle.frame_core.specs.Entered.{has_entered};
 ghost use Rattle.sound_scene.specs.Pictures.{lists_of, scene_of};
-ghost use Rattle.frame_core.specs.Faults.{limit_of_view};
-ghost use Rattle.frame_core.specs.Views.{AreSameViewTools, CanCount, CanDrawTools, PaintsView, tools_scene, tools_state};
-ghost use Rattle.frame_core.specs.Painters.{HasWalkedNothing, IsPlacedIn, counts_in};
-ghost use Rattle.frame_core.specs.Walked.{CanTake, HasWalked, IsEventIn, next_dots, with_sector};
+ghost use Rattle.frame_core.specs.Views.{CanCount};
+ghost use Rattle.frame_core.specs.Painters.{HasWalkedNothing, TakesWalls, counts_in};
+ghost use Rattle.frame_core.specs.ViewStrips.{event_strips};
+ghost use Rattle.frame_core.specs.Walked.{CanTake, HasWalked, IsEventIn, with_sector};
 
 use crate::entered::Entered;
 use crate::facts::{facts_of, surface_at};
-use crate::fault::ViewFault;
 use crate::keys::{ceiling_key, floor_key};
 use crate::things::add_things;
-use crate::tools::ViewTools;
-use art_rules::Shelf;
-use picture_rules::{Counts, FRAME_HEIGHT, Limits};
-use pixel_strips::Canvas;
+use brush::Brush;
+use picture_rules::{Counts, FRAME_HEIGHT, Limits, OverLimit};
 use sound_scene::SoundScene;
 use std::alloc::{AllocError, Global};
 use view_frame::View;
 use visplanes::Planes;
 use vissprites::Sprites;
-use wall_columns::{DrawFault, LeafPlanes, WallState, WallTools};
+use wall_columns::{LeafPlanes, WallState, WallStop};
 
 /// What a view is built in. `sector` is that of the leaf that was entered last.
 pub(crate) struct Bench {
@@ -95,6 +91,7 @@ impl Bench {
         ensures takes { CanTake view.now scene.now.scene self.new }
         ensures limits { limits_of self.new.walls self.new.planes
             ≡ limits_of self.old.walls self.old.planes }
+        ensures sound { IsSound scene.now.scene.base.level }
     {
         self.planes.clear();
         self.walls.start_view(view.shape().height);
@@ -106,7 +103,7 @@ impl Bench {
     /// Enters a leaf: its floor and its ceiling are found among the planes, and where its sector is
     /// entered for the first time its things become vissprites.
     ///
-    /// Errors: `Planes` exactly where the floor or the ceiling is a plane past the limit.
+    /// Errors: the count of planes, exactly where the floor or the ceiling is a plane past the limit.
     ///
     /// The original: `R_Subsector`, r_bsp.c.
     pub fn enter_leaf(
@@ -114,7 +111,7 @@ impl Bench {
         scene: &SoundScene,
         view: &View<'_>,
         leaf: u16,
-    ) -> Result<(), DrawFault>
+    ) -> Result<(), OverLimit>
         requires scene { CanCount scene.now.scene }
         requires there { leaf < length scene.now.scene.base.level.leaves }
         requires takes { CanTake view.now scene.now.scene self.old }
@@ -124,9 +121,8 @@ impl Bench {
             (events ++ LeafEvent leaf ∷ []) self.new) }
         ensures over { (bytes : ℕ → List ℕ) (limits : Limits) (events : List Event) →
             HasWalked view.now bytes scene.now.scene limits events self.old →
-            limit_of_result result ≡ steps_over limits
+            over_of result ≡ steps_over limits
             (view_steps view.now (scene_of bytes scene.now.scene) (events ++ LeafEvent leaf ∷ [])) }
-        ensures faults { IfErr result IsLimitFault }
         ensures takes { OnOk result (CanTake view.now scene.now.scene self.new) }
         ensures limits { limits_of self.new.walls self.new.planes
             ≡ limits_of self.old.walls self.old.planes }
@@ -134,7 +130,7 @@ impl Bench {
         let sector = sector_of(scene, leaf);
         self.sector = sector;
         let planes = planes_of(scene, view, sector);
-        self.walls.start_leaf(&mut self.planes, planes)?;
+        self.walls.enter_leaf(&mut self.planes, planes)?;
         self.enter_sector(scene, view, sector);
         Ok(())
     }
@@ -164,33 +160,41 @@ impl Bench {
         }
     }
 
-    /// Counts the fragment of a seg in columns `first` to `last` of the view: what `store_fragment`
-    /// does, without a paint.
+    /// Asks a brush for the fragment of a seg in columns `first` to `last` of the view, and keeps what
+    /// planes and the masked pass need of it. Past 256 fragments it does nothing.
     ///
-    /// Errors: `Openings` and `Planes`, exactly where the fragment passes a limit.
+    /// Errors: `Over` exactly where the fragment's openings or planes pass a limit; the brush is asked
+    /// for nothing then. `Brush` with what the brush answered, at once.
     ///
-    /// This project's own.
-    pub fn count_fragment(
+    /// The original: `R_StoreWallRange`, r_segs.c.
+    pub fn paint_fragment<B: Brush>(
         &mut self,
         scene: &SoundScene,
         view: &View<'_>,
+        brush: &mut B,
         seg: u16,
         first: u16,
         last: u16,
-    ) -> Result<(), DrawFault>
+    ) -> Result<(), WallStop<B::Stop>>
         requires scene { CanCount scene.now.scene }
         requires there { IsEventIn view.now scene.now.scene (FragmentEvent seg first last) }
         requires takes { CanTake view.now scene.now.scene self.old }
+        requires strips { IsSound scene.now.scene.base.level →
+            TakesWalls B.takes brush.old view.now scene.now.scene }
         ensures walked { (bytes : ℕ → List ℕ) (limits : Limits) (events : List Event) →
             HasWalked view.now bytes scene.now.scene limits events self.old →
             OnOk result (HasWalked view.now bytes scene.now.scene limits
             (events ++ FragmentEvent seg first last ∷ []) self.new) }
         ensures over { (bytes : ℕ → List ℕ) (limits : Limits) (events : List Event) →
             HasWalked view.now bytes scene.now.scene limits events self.old →
-            limit_of_result result ≡ steps_over limits
+            over_of_stop result ≡ steps_over limits
             (view_steps view.now (scene_of bytes scene.now.scene)
             (events ++ FragmentEvent seg first last ∷ [])) }
-        ensures faults { IfErr result IsLimitFault }
+        ensures asks { (limits : Limits) (events : List Event) →
+            ((bytes : ℕ → List ℕ) → HasWalked view.now bytes scene.now.scene limits events self.old) →
+            ReceivesUnlessOver B.takes B.stands B.stopped brush.old brush.new
+            (event_strips view.now scene.now.scene events (FragmentEvent seg first last)) result }
+        ensures still { OnOk result (StillTakes B.takes brush.old brush.new) }
         ensures takes { OnOk result (CanTake view.now scene.now.scene self.new) }
         ensures limits { limits_of self.new.walls self.new.planes
             ≡ limits_of self.old.walls self.old.planes }
@@ -199,64 +203,7 @@ impl Bench {
         prove!(rows <= FRAME_HEIGHT);
         let facts = facts_of(scene, self.sector, seg);
         self.walls
-            .count_range(view, &mut self.planes, &facts, first, last)
-    }
-
-    /// Draws the fragment of a seg in columns `first` to `last` of the view, and keeps what planes
-    /// and the masked pass need of it. Past 256 fragments it does nothing.
-    ///
-    /// Errors: `Limit` exactly where the fragment's openings or planes pass a limit, and no other
-    /// fault came before; `ZoneFull` and `ReadFault` as for `Textures::ready`.
-    ///
-    /// The original: `R_StoreWallRange`, r_segs.c.
-    pub fn store_fragment<S: Shelf, C: Canvas>(
-        &mut self,
-        tools: &mut ViewTools<'_, S, C>,
-        seg: u16,
-        first: u16,
-        last: u16,
-    ) -> Result<(), ViewFault>
-        requires drawable { CanDrawTools tools.old }
-        requires there { IsEventIn tools.old.view.now tools.old.scene.now.scene
-            (FragmentEvent seg first last) }
-        requires takes { CanTake tools.old.view.now tools.old.scene.now.scene self.old }
-        requires placed { IsPlacedIn tools.old.view.now (C.view tools.old.canvas.now) }
-        ensures same { AreSameViewTools tools.old tools.new }
-        ensures counts { KeepsCounts tools.old.cache.now tools.new.cache.now }
-        ensures place { PlacedAlike (C.view tools.old.canvas.now) (C.view tools.new.canvas.now) }
-        ensures walked { (bytes : ℕ → List ℕ) (limits : Limits) (events : List Event) →
-            HasWalked tools.old.view.now bytes tools.old.scene.now.scene limits events self.old →
-            OnOk result (HasWalked tools.old.view.now bytes tools.old.scene.now.scene limits
-            (events ++ FragmentEvent seg first last ∷ []) self.new) }
-        ensures over { (bytes : ℕ → List ℕ) (limits : Limits) (events : List Event) →
-            HasWalked tools.old.view.now bytes tools.old.scene.now.scene limits events self.old →
-            IfErr result (λ fault. IfSome (limit_of_view fault) (λ over. steps_over limits
-            (view_steps tools.old.view.now (scene_of bytes tools.old.scene.now.scene)
-            (events ++ FragmentEvent seg first last ∷ [])) ≡ Some over)) }
-        ensures paints { (limits : Limits) (events : List Event) →
-            ((bytes : ℕ → List ℕ) → HasWalked tools.old.view.now bytes tools.old.scene.now.scene
-            limits events self.old) →
-            PaintsView C.mark (tools_scene tools.old)
-            (λ scene. next_dots tools.old.view.now scene events seg first last)
-            (tools_state S.view C.view tools.old) (tools_state S.view C.view tools.new) result }
-        ensures takes { OnOk result
-            (CanTake tools.old.view.now tools.old.scene.now.scene self.new) }
-        ensures limits { limits_of self.new.walls self.new.planes
-            ≡ limits_of self.old.walls self.old.planes }
-    {
-        let facts = facts_of(tools.scene, self.sector, seg);
-        let mut walls = WallTools {
-            view: tools.view,
-            textures: tools.scene.textures(),
-            cache: &mut *tools.cache,
-            dir: tools.dir,
-            shelf: &mut *tools.shelf,
-            planes: &mut self.planes,
-            canvas: &mut *tools.canvas,
-            colormap: tools.scene.colormap(),
-        };
-        self.walls.store_range(&mut walls, &facts, first, last)?;
-        Ok(())
+            .draw_range(view, &mut self.planes, brush, &facts, first, last)
     }
 }
 
@@ -276,6 +223,7 @@ fn first_sector(scene: &SoundScene) -> u16
     ensures value { result ≡ (leaf_at (lists_of scene.now.scene) 0).sector }
     ensures there { 0 < length scene.now.scene.base.level.segs →
         result < length scene.now.scene.base.level.sectors }
+    ensures sound { IsSound scene.now.scene.base.level }
 {
     match scene.level().leaves().first() {
         Some(leaf) => leaf.sector,

@@ -2,13 +2,14 @@
 //
 // Rules: `specs/Faults`; `picture_rules`, Counts. The original: `I_Error`, i_system.c.
 ghost use Rattle.std.specs.Prelude.{◌≡◌, Some};
-ghost use Rattle.wall_columns.specs.Faults.{limit_of_fault, IsLimitFault};
-ghost use Rattle.frame_core.specs.Faults.{from_cache, from_draw};
+ghost use Rattle.wall_columns.specs.Faults.{over_in};
+ghost use Rattle.frame_core.specs.Faults.{from_cache, from_stop};
 
 use picture_rules::{LimitKind, OverLimit};
+use std::convert::Infallible;
 use texture_build::CacheFault;
 use thiserror::Error;
-use wall_columns::DrawFault;
+use wall_columns::WallStop;
 
 /// What ends a view: its planes or its openings past their limit, with the first count that is; a
 /// zone without a gap for a block of `wanted` bytes, whose widest gap has `widest`; bytes that were
@@ -37,40 +38,26 @@ impl From<CacheFault> for ViewFault {
     }
 }
 
-impl From<DrawFault> for ViewFault {
-    ghost from_gives = { λ below fault. fault ≡ from_draw below };
+impl From<WallStop<CacheFault>> for ViewFault {
+    ghost from_gives = { λ stop fault. fault ≡ from_stop stop };
 
-    fn from(fault: DrawFault) -> Self {
-        match fault {
-            DrawFault::Planes { count } => ViewFault::Limit {
-                kind: LimitKind::Planes,
-                count,
+    fn from(stop: WallStop<CacheFault>) -> Self {
+        match stop {
+            WallStop::Over(over) => ViewFault::Limit {
+                kind: over.kind,
+                count: over.count,
             },
-            DrawFault::Openings { count } => ViewFault::Limit {
-                kind: LimitKind::Openings,
-                count,
-            },
-            DrawFault::ZoneFull { wanted, widest } => ViewFault::ZoneFull { wanted, widest },
-            DrawFault::ReadFault => ViewFault::ReadFault,
+            WallStop::Brush(fault) => ViewFault::from(fault),
         }
     }
 }
 
-/// The limit that ended a count of a view.
-#[tactic(auto, unfolding(picture_rules::specs::Counts::planes_count, picture_rules::specs::Counts::openings_count))]
-pub(crate) fn over_limit(fault: DrawFault) -> OverLimit
-    requires { IsLimitFault fault }
-    ensures { limit_of_fault fault ≡ Some result }
+/// The limit that ended a count of a view, whose brush never stops.
+pub(crate) fn over_limit(stop: WallStop<Infallible>) -> OverLimit
+    ensures { over_in stop ≡ Some result }
 {
-    match fault {
-        DrawFault::Planes { count } => OverLimit {
-            kind: LimitKind::Planes,
-            count,
-        },
-        DrawFault::Openings { count } => OverLimit {
-            kind: LimitKind::Openings,
-            count,
-        },
-        DrawFault::ZoneFull { .. } | DrawFault::ReadFault => unreachable!(),
+    match stop {
+        WallStop::Over(over) => over,
+        WallStop::Brush(never) => match never {},
     }
 }

@@ -9,7 +9,6 @@
 #![tactic(auto)]
 
 mod bench;
-mod counter;
 mod entered;
 mod facts;
 mod fault;
@@ -19,6 +18,7 @@ mod list;
 mod lister;
 mod masks;
 mod painter;
+mod parts;
 mod shown;
 mod things;
 mod tools;

@@ -9,26 +9,30 @@ ghost use Rattle.frame_core.specs.Walked.{CanTake};
 ghost use Rattle.std.specs.Prelude.{◌≡◌, OnOk};
 
 use crate::bench::{Bench, sector_of};
-use crate::counter::ViewCounter;
+use crate::fault::over_limit;
+use crate::painter::ViewPainter;
 use crate::shown::list_entered;
 use crate::walk_list::WalkList;
 use crate::walked::walk_view;
+use brush::DryBrush;
 use node_walk::Visitor;
 use picture_rules::{ListedFragment, OverLimit, PlaneMaker};
 use sound_scene::SoundScene;
+use std::convert::Infallible;
 use view_frame::View;
+use wall_columns::WallStop;
 
 /// Counts each leaf and fragment of a view as it comes, and lists it.
 #[derive(Drop)]
-pub(crate) struct ViewLister<'a> {
-    pub counter: ViewCounter<'a>,
-    pub list: &'a mut WalkList,
+pub(crate) struct ViewLister<'b, 'a> {
+    pub painter: ViewPainter<'b, 'a, DryBrush>,
+    pub list: &'b mut WalkList,
 }
 
-impl<'a> Visitor for ViewLister<'a> {
+impl<'b, 'a> Visitor for ViewLister<'b, 'a> {
     ghost use Rattle.std.specs.Prelude.{Ok, Err};
-    ghost use Rattle.frame_core.specs.Listers.{HasGathered, ListerValue, lister_now};
-    ghost use Rattle.frame_core.specs.Painters.{CanCountNext, counter_now};
+    ghost use Rattle.frame_core.specs.Listers.{HasGathered, ListerValue, dry_takes, lister_now};
+    ghost use Rattle.frame_core.specs.Painters.{CanPaintNext, painter_now};
 
     ghost Start = { ListerValue };
 
@@ -36,25 +40,25 @@ impl<'a> Visitor for ViewLister<'a> {
 
     ghost stopped = { λ p start events stop. HasGathered start (lister_now p) events (Err stop) };
 
-    ghost takes = { λ p event. CanCountNext (counter_now p.counter) event };
+    ghost takes = { λ p event. CanPaintNext dry_takes (painter_now p.painter) event };
 
-    type Stop = OverLimit;
+    type Stop = WallStop<Infallible>;
 
-    fn leaf(&mut self, leaf: u16) -> Result<(), OverLimit> {
-        let scene = self.counter.scene;
-        let view = self.counter.view;
+    fn leaf(&mut self, leaf: u16) -> Result<(), WallStop<Infallible>> {
+        let scene = self.painter.scene;
+        let view = self.painter.view;
         let sector = sector_of(scene, leaf);
-        let is_known = self.counter.has_entered(sector);
-        self.counter.leaf(leaf)?;
-        let planes = self.counter.planes();
+        let is_known = self.painter.has_entered(sector);
+        self.painter.leaf(leaf)?;
+        let planes = self.painter.planes();
         self.list.add_makers(PlaneMaker::Leaf(leaf), planes);
         list_entered(scene, view, self.list, is_known, sector);
         Ok(())
     }
 
-    fn fragment(&mut self, seg: u16, first: u16, last: u16) -> Result<(), OverLimit> {
-        self.counter.fragment(seg, first, last)?;
-        let planes = self.counter.planes();
+    fn fragment(&mut self, seg: u16, first: u16, last: u16) -> Result<(), WallStop<Infallible>> {
+        self.painter.fragment(seg, first, last)?;
+        let planes = self.painter.planes();
         self.list
             .add_fragment(ListedFragment { seg, first, last }, planes);
         Ok(())
@@ -77,9 +81,16 @@ pub(crate) fn list_walls(
     ensures counted { HasCountedView view.now scene.now.scene bench.old bench.new result }
     ensures listed { OnOk result (IsListedView view.now scene.now.scene list.new) }
 {
-    let mut lister = ViewLister {
-        counter: ViewCounter { bench, scene, view },
-        list,
+    let mut brush = DryBrush;
+    let painter = ViewPainter {
+        bench,
+        scene,
+        view,
+        brush: &mut brush,
     };
-    walk_view(scene, view, &mut lister)
+    let mut lister = ViewLister { painter, list };
+    match walk_view(scene, view, &mut lister) {
+        Ok(()) => Ok(()),
+        Err(stop) => Err(over_limit(stop)),
+    }
 }

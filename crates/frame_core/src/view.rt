@@ -12,12 +12,9 @@ ghost use Rattle.std.specs.Prelude.{◌≡◌, ◌≤◌, ℕ, List, Some, IfErr
 ghost use Rattle.texture_build.specs.Draws.{DrawsWith, FitBeside};
 ghost use Rattle.texture_build.specs.Paints.{paint_state};
 
-use crate::bench::Bench;
-use crate::counter::count_walls;
 use crate::fault::ViewFault;
-use crate::floors::draw_floors;
-use crate::masks::draw_masks;
-use crate::painter::draw_walls;
+use crate::painter::count_walls;
+use crate::parts::draw_parts;
 use crate::tools::ViewTools;
 use crate::workshop::Workshop;
 use art_rules::Shelf;
@@ -167,37 +164,4 @@ pub fn count_view(
     bench.start(scene, &view);
     count_walls(scene, &view, bench)?;
     Ok(bench.counts())
-}
-
-// The three parts of a view: walls as they are walked, planes, the masked pass.
-fn draw_parts<S: Shelf, C: Canvas>(
-    tools: &mut ViewTools<'_, S, C>,
-    bench: &mut Bench,
-    marks: &mut [bool],
-) -> Result<(), ViewFault>
-    requires drawable { CanDrawTools tools.old }
-    requires marks { bench.old.walls.room ≤ length marks.old }
-    ensures same { AreSameViewTools tools.old tools.new }
-    ensures marks { length marks.new ≡ length marks.old }
-    ensures within { EndsWithin tools.old.view.now tools.old.scene.now.scene (limits_in bench.old)
-        result }
-    ensures over { EndsOver tools.old.view.now tools.old.scene.now.scene (limits_in bench.old)
-        result }
-    ensures paints { let v = tools.old.view.now in
-        PaintsView C.mark (tools_scene tools.old)
-        (view_paints v)
-        (paint_state (S.view tools.old.shelf.now) tools.old.cache.now
-        (placed_for v (C.view tools.old.canvas.now)))
-        (tools_state S.view C.view tools.new) result }
-    ensures in_view { (bytes : ℕ → List ℕ) → OnOk result (AreInView tools.old.view.now.shape
-        (view_paints tools.old.view.now (scene_of bytes tools.old.scene.now.scene))) }
-    ensures frame { IsWithinFrame tools.old.view.now.shape }
-    ensures limits { limits_in bench.new ≡ limits_in bench.old }
-{
-    let shape = tools.view.shape();
-    tools.canvas.place(shape.left, shape.top);
-    bench.start(tools.scene, tools.view);
-    draw_walls(tools, bench)?;
-    draw_floors(tools, bench)?;
-    draw_masks(tools, bench, marks)
 }

@@ -182,8 +182,8 @@ column_shown s notes es number own strip column is =
           column.masked column.first column.last is.0 is.1;
     }
 
-columns_shown : (s : MaskScene) (notes : List FragmentNote) (es : List SpriteEntry) (number : ℕ) (own : ℤ) → ShowsColumn (masked_strips s.view.now (scene_drawsegs s notes) es) number own → IsNotedMiddle (scene_lists s) s.openings.now notes number own
-columns_shown s notes es number own shows =
+pub columns-shown : (s : MaskScene) (notes : List FragmentNote) (es : List SpriteEntry) (number : ℕ) (own : ℤ) → ShowsColumn (masked_strips s.view.now (scene_drawsegs s notes) es) number own → IsNotedMiddle (scene_lists s) s.openings.now notes number own
+columns-shown s notes es number own shows =
     elim (masked-cases s.view.now (scene_drawsegs s notes) es shows.strip shows.among) [
       | inl column ↦ column_shown s notes es number own shows.strip column (subst (λ (strip : Strip). IsStripColumn strip number own) (sym column.is) shows.is)
       | inr sprite ↦ absurd (subst (λ (strip : Strip). IsStripColumn strip number own) (sym sprite.is) shows.is)
@@ -192,9 +192,9 @@ columns_shown s notes es number own shows =
 ordered_by : (first last : ℤ) → int_lt last first ≡ false → first ≤ℤ last
 ordered_by first last h = grind (arith, ints)
 
-lumps_shown : (s : MaskScene) (notes : List FragmentNote) (sprites : List SpriteEntry) (lump : ℕ) → ShowsLump (masked_strips s.view.now (scene_drawsegs s notes) (draw_order sprites)) lump → IsSpriteLump sprites lump
+pub lumps-shown : (s : MaskScene) (notes : List FragmentNote) (sprites : List SpriteEntry) (lump : ℕ) → ShowsLump (masked_strips s.view.now (scene_drawsegs s notes) (draw_order sprites)) lump → IsSpriteLump sprites lump
 unfolding shown_sprite sprite_strip
-lumps_shown s notes sprites lump shows =
+lumps-shown s notes sprites lump shows =
     elim (masked-cases s.view.now (scene_drawsegs s notes) (draw_order sprites) shows.strip shows.among) [
       | inl column ↦ absurd (subst (λ (strip : Strip). IsStripLump strip lump) (sym column.is) shows.is)
       | inr sprite ↦
@@ -213,4 +213,4 @@ pub pass-painted : {mark : Painter → ℕ → ℕ} (s : MaskScene) (notes : Lis
     (λ contents q. masked_dots s.view.now (painted_art contents t) (scene_drawsegs s notes) (draw_order sprites)) old new result
 pass-painted s notes sprites t one =
     paints-same _ (λ contents q is. masked-dots s.view.now (painted_art contents t) (scene_drawsegs s notes) (draw_order sprites))
-    (paints-wider (columns_shown s notes (draw_order sprites)) (lumps_shown s notes sprites) one)
+    (paints-wider (columns-shown s notes (draw_order sprites)) (lumps-shown s notes sprites) one)

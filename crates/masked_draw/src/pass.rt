@@ -28,7 +28,7 @@ use art_rules::Shelf;
 use brush::{Brush, LiveBrush, column_of};
 use picture_rules::{FragmentNote, SpriteEntry};
 use pixel_strips::Canvas;
-use texture_build::CacheFault;
+use texture_build::{CacheFault, TextureArt};
 use vissprites::Sprites;
 
 /// Draws the sprites, the least scale first, each after the masked mid textures that are behind it,
@@ -78,9 +78,11 @@ pub fn draw_masked<S: Shelf, C: Canvas>(
         middles: tools.middles,
     };
     let mut brush = LiveBrush {
-        textures: tools.textures,
-        dir: tools.dir,
-        colormap: tools.colormap,
+        art: TextureArt {
+            textures: tools.textures,
+            dir: tools.dir,
+            colormap: tools.colormap,
+        },
         cache: &mut *tools.cache,
         shelf: &mut *tools.shelf,
         canvas: &mut *tools.canvas,

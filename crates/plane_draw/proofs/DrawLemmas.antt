@@ -78,7 +78,7 @@ sky-column v sky planes n strip number own inside rows is =
 floor-column : (v : ViewValue) (n : ℕ) (p : Plane) (strip : Strip) (number : ℕ) (own : ℤ) → IsFloorOf v n p strip → IsStripColumn strip number own → ⊥
 floor-column v n p strip number own floor is = subst (λ (s : Strip). IsStripColumn s number own) (sym floor.is) is
 
-columns-shown : (v : ViewValue) (sky : Option TexNo) (planes : List Plane) (number : ℕ) (own : ℤ) → ShowsColumn (planes_strips v sky planes) number own → IsSkyColumn v sky planes number own
+pub columns-shown : (v : ViewValue) (sky : Option TexNo) (planes : List Plane) (number : ℕ) (own : ℤ) → ShowsColumn (planes_strips v sky planes) number own → IsSkyColumn v sky planes number own
 columns-shown v sky planes number own shows =
     let found = planes-cases v sky planes shows.strip shows.among in
     elim (plane-cases v sky found.number (plane_at planes found.number) shows.strip found.among) [
@@ -100,7 +100,7 @@ floor-lump v planes n strip lump inside floor is =
       is = floor.flat ∙ ap (λ (m : ℕ). flat.Lump m) (sym same);
     }
 
-lumps-shown : (v : ViewValue) (sky : Option TexNo) (planes : List Plane) (lump : ℕ) → ShowsLump (planes_strips v sky planes) lump → IsFlatOf planes lump
+pub lumps-shown : (v : ViewValue) (sky : Option TexNo) (planes : List Plane) (lump : ℕ) → ShowsLump (planes_strips v sky planes) lump → IsFlatOf planes lump
 lumps-shown v sky planes lump shows =
     let found = planes-cases v sky planes shows.strip shows.among in
     elim (plane-cases v sky found.number (plane_at planes found.number) shows.strip found.among) [

@@ -13,7 +13,7 @@ use crate::scene::{PlaneScene, ViewPlanes};
 use art_rules::Shelf;
 use brush::LiveBrush;
 use pixel_strips::Canvas;
-use texture_build::{CacheFault, Hands};
+use texture_build::{CacheFault, Hands, TextureArt};
 
 /// Paints all planes, in order of making: a floor or a ceiling by its flat, and the sky by its
 /// texture, column by column. A plane without a marked column asks for nothing, and of the sky's
@@ -47,9 +47,11 @@ pub fn draw_planes<S: Shelf, C: Canvas>(
         sky: scene.sky,
     };
     let mut brush = LiveBrush {
-        textures: scene.textures,
-        dir: scene.dir,
-        colormap: scene.colormap,
+        art: TextureArt {
+            textures: scene.textures,
+            dir: scene.dir,
+            colormap: scene.colormap,
+        },
         cache: &mut *hands.cache,
         shelf: &mut *hands.shelf,
         canvas: &mut *hands.canvas,

@@ -11,4 +11,6 @@ pub mod MarkLemmas
 pub mod BuiltLemmas
 pub mod OverLemmas
 pub mod RangeLemmas
+pub mod WallsLemmas
+pub mod LimitLemmas
 pub mod NotedLemmas

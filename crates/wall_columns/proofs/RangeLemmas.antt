@@ -190,7 +190,7 @@ column_wall v art ws k facts first last before x same =
     ∙ ap (λ (c : ColumnClip). wall_column_by v art k x (wall_of v facts first last) c (wall_edges v.shape (wall_of v facts first last) x)) same
 
 -- and those of a fragment
-fragment_dots : (v : ViewValue) (art : Art) (ws : List Wall) (k : ℕ) (facts : WallFacts) (first last : ℕ) (before : ℕ → ColumnClip) →
+pub fragment_dots : (v : ViewValue) (art : Art) (ws : List Wall) (k : ℕ) (facts : WallFacts) (first last : ℕ) (before : ℕ → ColumnClip) →
     ((x : ℕ) → first ≤ x → x ≤ last → before x ≡ clip_before v.shape ws k x) →
     strips_dots art (fragment_strips v k (fragment_of v facts first last) before) ≡ wall_dots v art ws k (wall_of v facts first last)
 unfolding strips_dots fragment_strips wall_dots wall_of

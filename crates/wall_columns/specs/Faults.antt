@@ -1,5 +1,5 @@
 -- The faults of drawing as those of any layer, which refuses what passes a limit, and what ends a view that a brush paints.
-use Rattle.std.specs.Prelude.{◌≡◌, ℕ, List, Option, Some, None, Result, Ok, Err, ⊤}
+use Rattle.std.specs.Prelude.{◌≡◌, ◌++◌, ℕ, List, Option, Some, None, Result, Ok, Err, ⊤}
 use Rattle.wall_columns.specs.Rules.{Fault, OverLimit, openings_count, planes_count}
 use Rattle.art_rules.specs.Fault.TheVariants as fault
 use Rattle.wall_columns.specs.declared.fault.DrawFault.{DrawFault}
@@ -67,6 +67,25 @@ abbrev pub ReceivesUnlessOver : {S I A E : Type 0} → (S → I → Type 0) → 
 ReceivesUnlessOver takes stands stopped old new items (Ok value) = Receives takes stands stopped old new items (Ok tt)
 ReceivesUnlessOver takes stands stopped old new items (Err (Over over)) = new ≡ old
 ReceivesUnlessOver takes stands stopped old new items (Err (Brush stop)) = Receives takes stands stopped old new items (Err stop)
+
+-- A receiver was given some of these items whole, from the first on.
+pub record ReceivesFirst {S I A E : Type 0} (takes : S → I → Type 0) (stands : S → A → List I → Type 0) (stopped : S → A → List I → E → Type 0)
+    (old new : S) (items : List I) : Type 0 where
+  pub some : List I
+  pub rest : List I
+  pub joins : some ++ rest ≡ items
+  pub given : Receives takes stands stopped old new some (Ok tt)
+
+-- It was given all of them; or up to the first that it answered by a Stop; or some, until a limit was passed.
+abbrev pub ReceivesBy : {S I A E : Type 0} → (S → I → Type 0) → (S → A → List I → Type 0) → (S → A → List I → E → Type 0) →
+    S → S → List I → Result (Unit {0}) (WallStop E) → Type 0
+ReceivesBy takes stands stopped old new items (Ok value) = Receives takes stands stopped old new items (Ok tt)
+ReceivesBy takes stands stopped old new items (Err (Over over)) = ReceivesFirst takes stands stopped old new items
+ReceivesBy takes stands stopped old new items (Err (Brush stop)) = Receives takes stands stopped old new items (Err stop)
+
+pub record ReceivesToLimit {S I A E : Type 0} (takes : S → I → Type 0) (stands : S → A → List I → Type 0) (stopped : S → A → List I → E → Type 0)
+    (old new : S) (items : List I) (result : Result (Unit {0}) (WallStop E)) : Type 0 where
+  pub by : ReceivesBy takes stands stopped old new items result
 
 -- planes alone are told
 abbrev pub IsPlanesFault : DrawFault → Type 0

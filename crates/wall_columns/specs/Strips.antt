@@ -1,6 +1,6 @@
 -- The strips of a fragment, for which a brush is asked: column by column, the upper one of a column first.
-use Rattle.std.specs.Prelude.{◌<◌, ◌≤◌, ◌≤ℤ◌, ◌-◌, ℕ, pos, nat_lt, int_lt, cond, List, [], ◌∷◌, length}
-use Rattle.wall_columns.specs.Rules.{ColumnClip, Edges, FRAME_WIDTH, FragmentNumbers, LIGHT_LEVELS, MAX_DRAWSEGS, Part, RowRange, ViewShape, ViewValue, WALL, WallFacts, WallStrip, edges_at, inverse_word, joined_lists, listed_from, natural, scale_map, wall_strips}
+use Rattle.std.specs.Prelude.{◌<◌, ◌≤◌, ◌≤ℤ◌, ◌+◌, ◌-◌, ◌++◌, ℕ, pos, nat_lt, int_lt, cond, List, [], ◌∷◌, length}
+use Rattle.wall_columns.specs.Rules.{ColumnClip, Edges, FRAME_WIDTH, FragmentNumbers, LIGHT_LEVELS, MAX_DRAWSEGS, Part, RowRange, ViewShape, ViewValue, WALL, Wall, WallFacts, WallStrip, clip_before, edges_at, inverse_word, joined_lists, listed_from, natural, scale_map, wall_strips}
 use Rattle.wall_edges.specs.{Fragments.FragmentValue, Fragments.fragment_of, Lines.column_of_line}
 use Rattle.texture_build.specs.declared.strip.TextureStrip.{TextureStrip}
 use Rattle.brush.specs.Strips.{Strip, Texture}
@@ -60,6 +60,18 @@ unfoldable pub range_strips : ViewValue → WallsView → WallFacts → ℕ → 
 range_strips v state facts first last =
     cond (nat_lt (length state.notes) MAX_DRAWSEGS)
     (fragment_strips v (length state.notes) (fragment_of v facts first last) (clip_at state)) []
+
+-- the strips of fragment number k of these, which is open where those before it left it so
+unfoldable pub wall_strips_at : ViewValue → List Wall → ℕ → Wall → List Strip
+wall_strips_at v walls k w = fragment_strips v k (fragment_of v w.facts w.first w.last) (λ x. clip_before v.shape walls k x)
+
+-- and those of all of them, one fragment after the other
+unfoldable pub walls_strips_from : ViewValue → List Wall → ℕ → List Wall → List Strip
+walls_strips_from v walls k [] = []
+walls_strips_from v walls k (w ∷ ws) = wall_strips_at v walls k w ++ walls_strips_from v walls (k + 1) ws
+
+unfoldable pub walls_strips : ViewValue → List Wall → List Strip
+walls_strips v walls = walls_strips_from v walls 0 walls
 
 -- no row outside the view is open
 abbrev pub AreOpenIn : WallsView → Type 0

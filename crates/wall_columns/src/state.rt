@@ -3,12 +3,13 @@
 // Rules: `specs/Walls`, `specs/Built`. The original: r_segs.c, and `R_Subsector` of r_bsp.c.
 ghost use Rattle.std.specs.Prelude.{◌≡◌, ◌<◌, ◌≤◌, ◌+◌, ◌↔◌, ℕ, [], List, None, Ok, IfOk, IfErr, OnOk, IsTrue, length};
 ghost use Rattle.wall_columns.specs.Rules.{AreNoted, FRAME_HEIGHT, FRAME_WIDTH, IsAmongPlanes, MAX_DRAWSEGS, MOST_OPENINGS, PlanesNow, ViewValue, Wall, after_event, no_planes, wall_of};
+ghost use Rattle.picture_rules.specs.declared.LimitKind.{LimitKind};
 ghost use Rattle.texture_build.specs.Draws.{CanDraw};
 ghost use Rattle.texture_build.specs.Paints.{Paints};
 ghost use Rattle.wall_columns.specs.Walls.{WallsView};
 ghost use Rattle.wall_columns.specs.Built.{AreBehind, IsBuilt, with_wall, step_of_wall, step_of_leaf, limits_of, step_over};
 ghost use Rattle.receiver_rules.specs.Receivers.{TakesEach};
-ghost use Rattle.wall_columns.specs.Faults.{draw_fault, limit_of_result, over_of_stop, IsPlanesFault, IsLimitFault, ReceivesUnlessOver};
+ghost use Rattle.wall_columns.specs.Faults.{draw_fault, limit_of_result, over_of, over_of_stop, IsPlanesFault, IsLimitFault, ReceivesUnlessOver};
 ghost use Rattle.pixel_strips.specs.Standing.{StandsInFrame};
 ghost use Rattle.wall_columns.specs.Draws.{IsNoPicture, IsPast, IsSeenOf, IsUntouched, IsWallTexture};
 ghost use Rattle.wall_columns.specs.Strips.{AreOpenIn, range_strips};
@@ -22,10 +23,11 @@ use crate::notes::note_of;
 use crate::tools::WallTools;
 use art_rules::Shelf;
 use brush::{Brush, DryBrush, LiveBrush};
-use picture_rules::{FragmentNote, MAX_DRAWSEGS, WallFacts};
+use picture_rules::{FragmentNote, MAX_DRAWSEGS, OverLimit, WallFacts};
 use pixel_strips::Canvas;
 use std::alloc::{AllocError, Global};
 use std::marker::Model;
+use texture_build::TextureArt;
 use view_frame::View;
 use visplanes::Planes;
 use wall_edges::Fragment;
@@ -159,8 +161,34 @@ impl WallState {
             { floor = self.new.floor; ceiling = self.new.ceiling } }
         ensures room { planes.new.room ≡ planes.old.room }
     {
-        self.columns.enter(planes, leaf)?;
+        self.enter_leaf(planes, leaf)?;
         Ok(())
+    }
+
+    /// Enters a leaf: what `start_leaf` does, with the count that passes its limit in place of a
+    /// fault.
+    ///
+    /// Errors: the count of planes, exactly where one of the two is a new plane past the room.
+    ///
+    /// The original: the calls of `R_FindPlane` in `R_Subsector`, r_bsp.c.
+    pub fn enter_leaf(&mut self, planes: &mut Planes, leaf: LeafPlanes) -> Result<(), OverLimit>
+        ensures built { (v : ViewValue) (walls : List Wall) (s : PlanesNow) →
+            IsBuilt v walls s self.old planes.old.planes →
+            OnOk result (IsBuilt v walls
+            (after_event s (step_of_leaf leaf.floor leaf.ceiling).event)
+            self.new planes.new.planes) }
+        ensures limit { (v : ViewValue) (walls : List Wall) (s : PlanesNow) →
+            IsBuilt v walls s self.old planes.old.planes →
+            over_of result ≡ step_over (limits_of self.old planes.old) s
+            (length self.old.openings) (step_of_leaf leaf.floor leaf.ceiling) }
+        ensures kind { IfErr result (λ over. over.kind ≡ LimitKind.Planes) }
+        ensures floor { OnOk result (IsAmongPlanes planes.new.planes self.new.floor) }
+        ensures ceiling { OnOk result (IsAmongPlanes planes.new.planes self.new.ceiling) }
+        ensures stays { self.new ≡ record self.old
+            { floor = self.new.floor; ceiling = self.new.ceiling } }
+        ensures room { planes.new.room ≡ planes.old.room }
+    {
+        self.columns.enter(planes, leaf)
     }
 
     /// Draws the fragment of a seg in columns `first` to `last` of the view: takes its openings,
@@ -227,9 +255,11 @@ impl WallState {
         ensures planes_room { tools.new.planes.now.room ≡ tools.old.planes.now.room }
     {
         let mut brush = LiveBrush {
-            textures: tools.textures,
-            dir: tools.dir,
-            colormap: tools.colormap,
+            art: TextureArt {
+                textures: tools.textures,
+                dir: tools.dir,
+                colormap: tools.colormap,
+            },
             cache: &mut *tools.cache,
             shelf: &mut *tools.shelf,
             canvas: &mut *tools.canvas,
