@@ -1,3 +1,4 @@
+pub mod CauseLemmas
 pub mod FileLemmas
 pub mod MemorySinkLemmas
 pub mod ShelfLemmas

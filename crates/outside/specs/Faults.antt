@@ -1,6 +1,6 @@
 -- Faults of a layer and of the layer above it, what a call answers by the steps of a definition, and
 -- when a read may fail.
-use Rattle.std.specs.Prelude.{◌≡◌, ℕ, Bool, IsTrue, Result, Ok, Err, IfOk, IfErr, ⊤}
+use Rattle.std.specs.Prelude.{◌≡◌, ℕ, Bool, IsTrue, Result, Ok, Err, IfOk, IfErr, OnOk, ⊤}
 use Rattle.outside.specs.{Causes.FaultsRose, declared.fault.Fault.Fault}
 use Rattle.outside.specs.declared.fault.Fault.TheVariants.{Refused, ReadFault, ZoneFull, OutOfMemory}
 
@@ -45,12 +45,16 @@ pub record ResultIs {A B R E : Type 0} (fault_of : E → Fault R) (steady : Bool
   pub ok : IfOk result (λ a. expected ≡ Ok (value a))
   pub err : IfErr result (λ fault. FaultFits steady expected (fault_of fault))
 
+-- what the counts of faults before and after a call say of its fault: a read that failed raised the
+-- count, and any other fault left it as it was
 abbrev pub HasCauseAt : {R : Type 0} → ℕ → ℕ → Fault R → Type 0
-HasCauseAt before now (Refused reason) = Unit {0}
+HasCauseAt before now (Refused reason) = now ≡ before
 HasCauseAt before now ReadFault = FaultsRose before now
-HasCauseAt before now (ZoneFull wanted widest) = Unit {0}
-HasCauseAt before now OutOfMemory = Unit {0}
+HasCauseAt before now (ZoneFull wanted widest) = now ≡ before
+HasCauseAt before now OutOfMemory = now ≡ before
 
--- a read failed only where the count of faults rose
+-- The count of faults rose where a read failed, and nowhere else: after any other answer it is as it
+-- was. So a call makes no fault of its own, and tries no failed call again.
 pub record HasCauses {B R E : Type 0} (fault_of : E → Fault R) (before now : ℕ) (result : Result B E) : Type 0 where
+  pub ok : OnOk result (now ≡ before)
   pub err : IfErr result (λ fault. HasCauseAt before now (fault_of fault))

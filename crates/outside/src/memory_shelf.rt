@@ -152,6 +152,8 @@ impl Shelf for MemoryShelf {
             IfSome (memory_view self.old).all_files
             (StandsForNamed (memory_view self.new) number.0 name.now)) }
         ensures follows { IsLaterShelf (memory_view self.old) (memory_view self.new) }
+        ensures settled { OnOk result
+            ((memory_view self.new).faults ≡ (memory_view self.old).faults) }
         ensures untaken { (memory_view self.new).taken ≡ (memory_view self.old).taken }
         ensures failed { OnErr result
             (FaultsRose (memory_view self.old).faults (memory_view self.new).faults) }
@@ -181,6 +183,8 @@ impl Shelf for MemoryShelf {
         ensures size { IfOk result (λ size.
             IfSome ((memory_view self.old).file file.0) (λ bytes. size ≡ length bytes)) }
         ensures follows { IsLaterShelf (memory_view self.old) (memory_view self.new) }
+        ensures settled { OnOk result
+            ((memory_view self.new).faults ≡ (memory_view self.old).faults) }
         ensures untaken { (memory_view self.new).taken ≡ (memory_view self.old).taken }
         ensures failed { OnErr result
             (FaultsRose (memory_view self.old).faults (memory_view self.new).faults) }
@@ -209,6 +213,8 @@ impl Shelf for MemoryShelf {
             (IfSome ((memory_view self.old).file file.0) (λ bytes.
             IsPieceAt bytes place piece.new)) }
         ensures follows { IsLaterShelf (memory_view self.old) (memory_view self.new) }
+        ensures settled { OnOk result
+            ((memory_view self.new).faults ≡ (memory_view self.old).faults) }
         ensures taken { OnOk result
             ((memory_view self.new).taken ≡ counted (memory_view self.old).taken
             (length piece.old)) }
