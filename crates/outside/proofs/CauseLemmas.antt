@@ -1,7 +1,7 @@
 -- The count of faults over one call and another, and over steps that read nothing.
-use Rattle.std.proofs.Common.{◌≡◌, ℕ, Result, Ok, Err, IsErrAnd, IfErr, OnOk, OnErr, refl, sym, subst, ap, ◌∙◌}
+use Rattle.std.proofs.Common.{◌≡◌, ℕ, Result, Ok, Err, IsErrAnd, IfErr, OnOk, refl, sym, subst, ap, ◌∙◌}
 use Rattle.std.proofs.lemmas.Result.{err_from_is_err_and}
-use Rattle.outside.specs.{Causes.FaultsRose, declared.fault.Fault.Fault}
+use Rattle.outside.specs.{declared.fault.Fault.Fault}
 use Rattle.outside.specs.declared.fault.Fault.TheVariants.{Refused, ReadFault, ZoneFull, OutOfMemory}
 use Rattle.outside.specs.Faults.{HasCauseAt, HasCauses, fault_above}
 
@@ -13,8 +13,8 @@ cause_none n (ZoneFull wanted widest) other = refl
 cause_none n OutOfMemory other = refl
 
 -- where the count is as it was before the first call, the second call's cause is that of both
-pub cause_then : {R : Type 0} {a b c : ℕ} (fault : Fault R) → b ≡ a → HasCauseAt b c fault → HasCauseAt a c fault
-cause_then {c} fault same cause = subst (λ n. HasCauseAt n c fault) same cause
+pub cause_then : {R : Type 0} {a b : ℕ} (c : ℕ) (fault : Fault R) → b ≡ a → HasCauseAt b c fault → HasCauseAt a c fault
+cause_then c fault same cause = subst (λ n. HasCauseAt n c fault) same cause
 
 -- the same fault of the layer above
 pub cause_above : {R Q : Type 0} (lift : R → Q) (before now : ℕ) (fault : Fault R) → HasCauseAt before now fault → HasCauseAt before now (fault_above lift fault)

@@ -161,7 +161,7 @@ fn lumps_of(alloc: Global, number: u64, head: Header, entries: &[u8]) -> Result<
         found.items) (unless_refused (entry_refusal number head.size lumps) lumps) result }
     ensures count { IfOk result (λ lumps. length lumps.items ≡ head.count) }
     ensures owned { IfOk result (λ lumps. All (λ lump. lump.file ≡ number) lumps.items) }
-    ensures causes { (before now : ℕ) → HasCauses dir_fault before now result }
+    ensures causes { (faults : ℕ) → HasCauses dir_fault faults faults result }
 {
     let lumps = read_entries(alloc, number, head.count as usize, entries)?;
     check_entries(number, head.size, &lumps)?;

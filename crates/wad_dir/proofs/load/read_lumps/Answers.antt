@@ -30,6 +30,7 @@ loop-i-preserved g c =
       few = omega (arith, c.in_ok-found.ensures.few);
       owned = all_joined c.loop-i.i (length c.args.files.now) c.loop-i.lumps.items c.in_ok-found.found.items _ lumps_added (omega arith) c.loop-i.invariant.owned c.in_ok-found.ensures.owned;
       follows = follows_then c.loop-i.invariant.follows c.read_file.ensures.follows;
+      settled = c.in_ok-found.ensures.causes.ok ∙ c.loop-i.invariant.settled;
       read = λ contents stand.
           let as_many_files : length c.args.files.now ≡ length contents = as_many (g.S.Shelf.view c.args.shelf.now) _ _ stand in
           file_more contents c.loop-i.i c.loop-i.lumps.items c.extend_from_slice.new.self.items c.in_ok-found.found.items (omega arith) lumps_added lengths_add
