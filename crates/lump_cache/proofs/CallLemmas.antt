@@ -1,6 +1,7 @@
 -- One call after another, each by what it reads.
-use Rattle.zone_rules.proofs.Common.{◌≡◌, ℕ, ◌+◌, ◌<◌, ◌≤◌, Bool, List, Option, Some, None, Result, Ok, Err, refl, sym, subst, ap, ◌∙◌, arith, IsErrAnd, MatchResult, IfErr, IfOk, IfSome, err_from_is_err_and}
-use Rattle.lump_cache.specs.Rules.{Fault, FaultFits, FaultsRose, HasCauseAt, Heap, KeepsOrder, MIN_FRAGMENT, OutOfMemory, ReadFault, Refused, ResultIs, ShelfView, ZoneFull, block_size, bytes_of, fault_above, from_below, lump_bytes}
+use Rattle.zone_rules.proofs.Common.{◌≡◌, ℕ, ◌+◌, ◌<◌, ◌≤◌, Bool, List, Option, Some, None, Result, Ok, Err, refl, sym, subst, ap, ◌∙◌, arith, IsErrAnd, MatchResult, IfErr, IfOk, IfSome, OnOk, err_from_is_err_and}
+use Rattle.lump_cache.specs.Rules.{Fault, FaultFits, HasCauseAt, Heap, KeepsOrder, MIN_FRAGMENT, OutOfMemory, ReadFault, Refused, ResultIs, ShelfView, ZoneFull, block_size, bytes_of, fault_above, from_below, lump_bytes}
+use Rattle.outside.proofs.CauseLemmas.{cause_above, cause_memory, cause_refused, cause_then}
 use Rattle.outside.proofs.ShelfLemmas.{follows_none, follows_then, all_stand_later}
 use Rattle.zone_rules.proofs.OrderLemmas.{order_none, order_then}
 use Rattle.wad_dir.specs.DirectoryView.{DirectoryView}
@@ -61,15 +62,6 @@ full_for_earlier among keeps wanted widest' full = record {
   gap = λ colormap count rest. subst (λ (n : ℕ). IsGapBeside n (block_size count) widest') keeps.counts.0 (full.gap colormap count (keeps.rest colormap count rest));
 }
 
-rose_later : (a b c : ℕ) → a ≤ b → FaultsRose b c → FaultsRose a c
-rose_later a b c h r = omega (arith, h, r)
-
-pub cause_later : {R : Type 0} (a b c : ℕ) (fault : Fault R) → a ≤ b → HasCauseAt b c fault → HasCauseAt a c fault
-cause_later a b c (Refused reason) h k = tt
-cause_later a b c ReadFault h k = rose_later a b c h k
-cause_later a b c (ZoneFull wanted widest') h k = tt
-cause_later a b c OutOfMemory h k = tt
-
 pub full_at : {R : Type 0} {P Q : ℕ → ℕ → Type 0} (fault : Fault R) → ((wanted widest' : ℕ) → P wanted widest' → Q wanted widest') → IfFull fault P → IfFull fault Q
 full_at (Refused reason) f k = tt
 full_at ReadFault f k = tt
@@ -95,7 +87,7 @@ module _ {A B R E : Type 0} {fault_of : E → Fault R} {wants : ℕ → Type 0} 
   reads_known view dir z answer known = record {
     keeps = keeps_none view dir z;
     answers = λ contents t. record { ok = known contents t; err = tt };
-    causes = record { err = tt };
+    causes = record { ok = refl; err = tt };
     full = tt;
     order = λ items all k. order_none items z view.taken k;
   }
@@ -113,7 +105,7 @@ module _ {A B R E : Type 0} {fault_of : E → Fault R} {wants : ℕ → Type 0} 
   reads_refused reason is known = record {
     keeps = keeps_none view dir z;
     answers = λ contents t. record { ok = tt; err = rw is (known contents t) };
-    causes = record { err = rw is tt };
+    causes = record { ok = tt; err = cause_refused (fault_of fault) reason is refl };
     full = rw is tt;
     order = λ items all k. at_known (fault_of fault) reason is (order_none items z view.taken k);
   }
@@ -123,7 +115,7 @@ module _ {A B R E : Type 0} {fault_of : E → Fault R} {wants : ℕ → Type 0} 
   reads_memory is = record {
     keeps = keeps_none view dir z;
     answers = λ contents t. record { ok = tt; err = rw is tt };
-    causes = record { err = rw is tt };
+    causes = record { ok = tt; err = cause_memory (fault_of fault) is refl };
     full = rw is tt;
     order = λ items all k. rw is (order_none items z view.taken k);
   }
@@ -138,7 +130,7 @@ module _ {A B C D E F R G : Type 0} {fault_of : G → Fault R} {v w x : ShelfVie
     answers = λ contents t.
         let second_ok = subst (λ (y : Result F G). IfOk y (λ g. part (lump_bytes contents dir.lumps) ≡ Ok (next g))) is (two.answers contents (told_later one.keeps t)).ok in
         record { ok = joins (lump_bytes contents dir.lumps) (one.answers contents t).ok second_ok; err = tt };
-    causes = record { err = tt };
+    causes = record { ok = subst (λ (y : Result F G). OnOk y (x.faults ≡ w.faults)) is two.causes.ok ∙ one.causes.ok; err = tt };
     full = tt;
     order = λ items all k.
         let order_before = one.order items all k in
@@ -153,7 +145,7 @@ module _ {A B C D E F R G : Type 0} {fault_of : G → Fault R} {v w x : ShelfVie
     answers = λ contents t.
         let second_err = subst (λ (y : Result F G). IfErr y (λ f. FaultFits w.steady (part (lump_bytes contents dir.lumps)) (fault_of f))) is (two.answers contents (told_later one.keeps t)).err in
         record { ok = tt; err = reads_at v.steady w.steady (part (lump_bytes contents dir.lumps)) (expected (lump_bytes contents dir.lumps)) (fault_of fault) one.keeps.follows.steady (λ e h. stops (lump_bytes contents dir.lumps) e (one.answers contents t).ok h) second_err };
-    causes = record { err = cause_later v.faults w.faults x.faults (fault_of fault) one.keeps.follows.faults (subst (λ (y : Result F G). IfErr y (λ f. HasCauseAt w.faults x.faults (fault_of f))) is two.causes.err) };
+    causes = record { ok = tt; err = cause_then x.faults (fault_of fault) one.causes.ok (subst (λ (y : Result F G). IfErr y (λ f. HasCauseAt w.faults x.faults (fault_of f))) is two.causes.err) };
     full = full_at (fault_of fault) (λ wanted widest' k. full_for_earlier among one.keeps wanted widest' k) (subst (λ (y : Result F G). IfErr y (λ f. IfFull (fault_of f) (IsFullFor some dir b))) is two.full);
     order = λ items all k.
         let order_before = one.order items all k in
@@ -173,7 +165,7 @@ pub reads_as : {A B C D R E : Type 0} {fault_of : E → Fault R} {v w : ShelfVie
 reads_as answer got one among joins = record {
   keeps = one.keeps;
   answers = λ contents t. record { ok = joins _ (one.answers contents t).ok; err = tt };
-  causes = record { err = tt };
+  causes = record { ok = one.causes.ok; err = tt };
   full = tt;
   order = λ items all k. one.order items (λ lump s. all lump (among lump s)) k;
 }
@@ -184,7 +176,7 @@ pub reads_told : {A B C D R E : Type 0} {fault_of : E → Fault R} {v w : ShelfV
 reads_told answer got one among known = record {
   keeps = one.keeps;
   answers = λ contents t. record { ok = known contents t; err = tt };
-  causes = record { err = tt };
+  causes = record { ok = one.causes.ok; err = tt };
   full = tt;
   order = λ items all k. one.order items (λ lump s. all lump (among lump s)) k;
 }
@@ -223,10 +215,10 @@ reads_then {first} {before} {answer} expected (Err fault) one two earlier later 
 -- memory ran out after what was done
 pub reads_short : {A B C D R E : Type 0} {fault_of : E → Fault R} {v w : ShelfView} {dir : DirectoryView} {a b : Heap} {wants some : ℕ → Type 0} {value : B → A} {first : D → C} {expected : (ℕ → List ℕ) → Result A R} {before : (ℕ → List ℕ) → Result C R} {answer : D} (fault : E) → fault_of fault ≡ OutOfMemory → ((lump : ℕ) → some lump → wants lump) →
     ReadsLumps fault_of v w dir a b some first before (Ok answer) → ReadsLumps fault_of v w dir a b wants value expected (Err fault)
-reads_short fault is among one = record {
+reads_short {fault_of} fault is among one = record {
   keeps = one.keeps;
   answers = λ contents t. record { ok = tt; err = rw is tt };
-  causes = record { err = rw is tt };
+  causes = record { ok = tt; err = cause_memory (fault_of fault) is one.causes.ok };
   full = rw is tt;
   order = λ items all k. rw is (one.order items (λ lump s. all lump (among lump s)) k);
 }
@@ -237,7 +229,7 @@ pub reads_then_refused : {A B C D R E : Type 0} {fault_of : E → Fault R} {v w 
 reads_then_refused {fault_of} fault reason is among one known = record {
   keeps = one.keeps;
   answers = λ contents t. record { ok = tt; err = rw is (known contents t (one.answers contents t).ok) };
-  causes = record { err = rw is tt };
+  causes = record { ok = tt; err = cause_refused (fault_of fault) reason is one.causes.ok };
   full = rw is tt;
   order = λ items all k. at_known (fault_of fault) reason is (one.order items (λ lump s. all lump (among lump s)) k);
 }
@@ -248,7 +240,7 @@ pub reads_then_found : {A B C D R E : Type 0} {fault_of : E → Fault R} {v w : 
 reads_then_found got among one known = record {
   keeps = one.keeps;
   answers = λ contents t. record { ok = known contents t (one.answers contents t).ok; err = tt };
-  causes = record { err = tt };
+  causes = record { ok = one.causes.ok; err = tt };
   full = tt;
   order = λ items all k. one.order items (λ lump s. all lump (among lump s)) k;
 }
@@ -263,12 +255,6 @@ reads_up f steady expected (Refused reason) k = ap (from_below f) k
 reads_up f steady expected ReadFault k = k
 reads_up f steady expected (ZoneFull wanted widest') k = tt
 reads_up f steady expected OutOfMemory k = tt
-
-cause_up : {R Q : Type 0} (f : R → Q) (before now : ℕ) (fault : Fault R) → HasCauseAt before now fault → HasCauseAt before now (fault_above f fault)
-cause_up f before now (Refused reason) k = tt
-cause_up f before now ReadFault k = k
-cause_up f before now (ZoneFull wanted widest') k = tt
-cause_up f before now OutOfMemory k = tt
 
 full_up : {R Q : Type 0} (P : ℕ → ℕ → Type 0) (f : R → Q) (fault : Fault R) → IfFull fault P → IfFull (fault_above f fault) P
 full_up P f (Refused reason) k = tt
@@ -288,14 +274,14 @@ pub reads_above : {A B R E Q G : Type 0} {fault_of : E → Fault R} {high : G �
 reads_above {fault_of} {dir} f above same (Ok answer) one = record {
   keeps = one.keeps;
   answers = λ contents t. record { ok = ap (from_below f) (one.answers contents t).ok; err = tt };
-  causes = record { err = tt };
+  causes = record { ok = one.causes.ok; err = tt };
   full = tt;
   order = one.order;
 }
 reads_above {fault_of} {high} {v} {w} {dir} {a} {b} {wants} {expected} f above same (Err e) one = record {
   keeps = one.keeps;
   answers = λ contents t. record { ok = tt; err = rw (same e) (reads_up f v.steady (expected (lump_bytes contents dir.lumps)) (fault_of e) (one.answers contents t).err) };
-  causes = record { err = rw (same e) (cause_up f v.faults w.faults (fault_of e) one.causes.err) };
+  causes = record { ok = tt; err = rw (same e) (cause_above f v.faults w.faults (fault_of e) one.causes.err) };
   full = rw (same e) (full_up (IsFullFor wants dir a) f (fault_of e) one.full);
   order = λ items all k. rw (same e) (order_up (KeepsOrder items a b v.taken w.taken) f (fault_of e) (one.order items all k));
 }

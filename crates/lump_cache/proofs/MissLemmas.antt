@@ -36,7 +36,7 @@ module _ (dir : DirectoryView) (lump : ℕ) (tag : Tag) (view : ShelfView) (old 
     taken = λ none. absurd (false≢true (sym none ∙ live));
     untouched = λ zero. refl;
     follows = follows_none view;
-    causes = record { err = tt };
+    causes = record { ok = refl; err = tt };
     answers = λ contents stand within. record { ok = refl; err = tt };
   }
 
@@ -70,18 +70,18 @@ module _ (dir : DirectoryView) (lump : ℕ) (tag : Tag) (view : ShelfView) (old 
     pub miss_full : (wanted widest' : ℕ) → NoRoom size old wanted widest' → new ≡ without_room (block_size size) old → owned_block owner new.blocks ≡ None → FetchesLump dir lump tag view view old new (Err (ZoneFull wanted widest'))
     miss_full wanted widest' room left empty =
         missed view new _ none (room, left) (λ all. tt) empty others (λ contents stand. no_bytes empty contents) tt (λ zero. refl) (follows_none view)
-        (record { err = tt }) (λ contents stand within. record { ok = tt; err = tt })
+        (record { ok = tt; err = refl }) (λ contents stand within. record { ok = tt; err = tt })
 
     module _ (after : ShelfView) (room : HasRoom) (follows : IsLaterShelf view after) where
       -- the block was taken, and filled
       pub miss_ok : TakesBlock old new owner size tag → ((contents : List (List ℕ)) → NameFiles view dir.files contents → IfSome (bytes_of owner new.blocks) (λ xs. xs ≡ lump_bytes contents dir.lumps lump)) →
-          (0 < size → after.taken ≡ counted view.taken size) → (size ≡ 0 → after ≡ view) → FetchesLump dir lump tag view after old new (Ok tt)
-      miss_ok takes bytes taken untouched =
+          (0 < size → after.taken ≡ counted view.taken size) → (size ≡ 0 → after ≡ view) → after.faults ≡ view.faults → FetchesLump dir lump tag view after old new (Ok tt)
+      miss_ok takes bytes taken untouched settled =
           missed after new _ none takes (λ all. room all) tt others bytes (λ n. taken) untouched follows
-          (record { err = tt }) (λ contents stand within. record { ok = refl; err = tt })
+          (record { ok = settled; err = tt }) (λ contents stand within. record { ok = refl; err = tt })
 
       -- the block was taken, and given back after a read that failed
       pub miss_read : GivesBack old new owner size tag → owned_block owner new.blocks ≡ None → (size ≡ 0 → ⊥) → FaultsRose view.faults after.faults → ((contents : List (List ℕ)) → NameFiles view dir.files contents → AllWithin contents dir.lumps → IsTrue view.steady → ⊥) → FetchesLump dir lump tag view after old new (Err ReadFault)
       miss_read back empty some rose steady =
           missed after new _ none back (λ all. room all) empty others (λ contents stand. no_bytes empty contents) tt (λ zero. absurd (some zero)) follows
-          (record { err = rose }) (λ contents stand within. record { ok = tt; err = steady contents stand within })
+          (record { ok = tt; err = rose }) (λ contents stand within. record { ok = tt; err = steady contents stand within })

@@ -31,6 +31,7 @@ pub fn read_into<S: Shelf>(
     ensures taken { OnOk result (IfSome (bytes_of (lump_owner lump.0) zone.old.blocks) (λ xs.
         (S.view shelf.new).taken ≡ counted (S.view shelf.old).taken (length xs))) }
     ensures failed { OnErr result (FaultsRose (S.view shelf.old).faults (S.view shelf.new).faults) }
+    ensures settled { OnOk result ((S.view shelf.new).faults ≡ (S.view shelf.old).faults) }
     ensures steady { IsTrue (S.view shelf.old).steady →
         IfSome ((S.view shelf.old).file file.0) (λ bytes.
         IfSome (bytes_of (lump_owner lump.0) zone.old.blocks) (λ xs.

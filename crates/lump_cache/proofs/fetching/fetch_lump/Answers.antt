@@ -64,7 +64,7 @@ returns-then-size-eq0-clause-fetches g c =
     (λ p apart. beside old new p _ (c.in_ok-malloc.ensures.others p (ap (λ n. same_owner (owner_at 0 n) p) c.lump_slot-2.ensures ∙ apart)))
     view (room old _ _ c.size-size.ensures c.in_ok-malloc.ensures.full.1) (follows_none view) takes_block
     (λ contents stand. some_bytes owner new.blocks takes_block.bytes _ (ap bytes_in takes_block.block) (nothing_is_lump contents c.args.dir.now.lumps c.args.lump.0 takes_block.bytes (takes_block.len ∙ zero) zero))
-    (λ some. absurd (omega (arith, some, zero))) (λ z. refl)
+    (λ some. absurd (omega (arith, some, zero))) (λ z. refl) refl
 
 -- one that is read
 taken : (g : Over) (c : After-read_into g) → TakesBlock c.args.zone.now c.malloc.new.self (lump_owner c.args.lump.0) (lump_at c.args.dir.now.lumps c.args.lump.0).size c.args.tag
@@ -105,7 +105,7 @@ returns-in-Ok-clause-fetches g c =
     view_after (room old _ _ c.size-size.ensures c.in_ok-malloc.ensures.full.1) c.read_into.ensures.follows (filled g after_read)
     (λ contents stand. some_bytes owner new.blocks block_filled.bytes _ (written_bytes owner _ c.args.tag old zone_made new _ takes_block block_filled) (filled_lump contents c.args.dir.now.lumps view c.args.dir.now.files c.args.lump.0 c.file.result c.place.result block_filled.bytes stand c.file.ensures c.place.ensures bytes_length (rw c.in-Ok.is at block_filled.says)))
     (λ some. subst (λ (b : Option (List ℕ)). IfSome b (λ xs. view_after.taken ≡ counted view.taken (length xs))) (ap bytes_in takes_block.block) c.in-Ok.ensures.taken ∙ ap (counted view.taken) takes_block.len)
-    (λ zero. absurd (c.if-size-eq0.false (c.size-size.ensures ∙ zero)))
+    (λ zero. absurd (c.if-size-eq0.false (c.size-size.ensures ∙ zero))) c.in-Ok.ensures.settled
 
 -- over a steady shelf with the lump's file the read is answered
 steady_read : (g : Over) (c : After-read_into g) (contents : List (List ℕ)) → NameFiles (g.S.Shelf.view c.args.shelf.now) c.args.dir.now.files contents → AllWithin contents c.args.dir.now.lumps →
