@@ -1,5 +1,6 @@
 -- The laws of the crates below this one that others cite, each with the page that proves it.
 pub use Rattle.outside.proofs.AnswerLemmas.{and_then-ok}
+pub use Rattle.outside.proofs.CauseLemmas.{cause_above, cause_memory, cause_none, cause_refused, cause_then, causes_memory, causes_ok, causes_refused, causes_settled, causes_stop, causes_then}
 pub use Rattle.outside.proofs.ShelfLemmas.{all_stand_later, follows_none, follows_then, stands_at}
 pub use Rattle.outside.proofs.StepLemmas.{last_stop, step}
 pub use Rattle.outside.proofs.StopLemmas.{absent_agrees, all_passed, file_agrees, no_file_agrees, not_held, step_passed, step_stops, stops_all, unread_agrees}

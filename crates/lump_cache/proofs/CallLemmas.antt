@@ -1,5 +1,5 @@
 -- One call after another, each by what it reads.
-use Rattle.zone_rules.proofs.Common.{◌≡◌, ℕ, ◌+◌, ◌<◌, ◌≤◌, Bool, List, Option, Some, None, Result, Ok, Err, refl, sym, subst, ap, ◌∙◌, arith, IsErrAnd, MatchResult, IfErr, IfOk, IfSome, OnOk, err_from_is_err_and}
+use Rattle.zone_rules.proofs.Common.{◌≡◌, ℕ, ◌+◌, ◌<◌, Bool, List, Option, Some, None, Result, Ok, Err, refl, sym, subst, ap, ◌∙◌, arith, IsErrAnd, MatchResult, IfErr, IfOk, IfSome, OnOk, err_from_is_err_and}
 use Rattle.lump_cache.specs.Rules.{Fault, FaultFits, HasCauseAt, Heap, KeepsOrder, MIN_FRAGMENT, OutOfMemory, ReadFault, Refused, ResultIs, ShelfView, ZoneFull, block_size, bytes_of, fault_above, from_below, lump_bytes}
 use Rattle.outside.proofs.CauseLemmas.{cause_above, cause_memory, cause_refused, cause_then}
 use Rattle.outside.proofs.ShelfLemmas.{follows_none, follows_then, all_stand_later}
