@@ -1,10 +1,11 @@
 -- One call after another, by what is told of each and what was read so far.
-use Rattle.art_rules.proofs.Common.{ap, Err, err_from_is_err_and, IfErr, IfOk, IfSome, IsErrAnd, List, MatchResult, None, Ok, Option, refl, replicate, Result, slice_index_or, Some, subst, suc, sym, zero, ℕ, ◌∙◌, ◌≡◌}
+use Rattle.art_rules.proofs.Common.{ap, Err, err_from_is_err_and, IfErr, IfOk, IfSome, IsErrAnd, List, MatchResult, None, Ok, OnOk, Option, refl, replicate, Result, slice_index_or, Some, subst, suc, sym, zero, ℕ, ◌∙◌, ◌≡◌}
+use Rattle.art_rules.proofs.Laws.{cause_then}
 use Rattle.sprite_book.specs.Rules.{Fault, FaultFits, HasCauseAt, OutOfMemory, Patch, Refused, ShelfView, SpriteRefusal, itself, lump_bytes, patch_of}
 use Rattle.lump_cache.specs.{Zones.Heap, Orders.KeepsOrder, DirectoryView.DirectoryView}
 use Rattle.zone_rules.proofs.OrderLemmas.{order_none, order_then}
 use Rattle.lump_cache.specs.Calls.{ReadsLumps, PreservesCache, IsFullFor, IfFull, InOrderAt}
-use Rattle.lump_cache.proofs.CallLemmas.{keeps_none, keeps_then, told_later, full_for_earlier, cause_later, full_at, order_at, reads_at}
+use Rattle.lump_cache.proofs.CallLemmas.{keeps_none, keeps_then, told_later, full_for_earlier, full_at, order_at, reads_at}
 use Rattle.sprite_book.specs.Calls.{Reads, HoldContentsWith, ArePatchesOf}
 
 -- the contents are told later too
@@ -19,7 +20,7 @@ module _ {A B : Type 0} {wants : ℕ → Type 0} {value : B → A} {expected : (
     read = λ contents told. told.read;
     count = refl;
     answers = λ contents told. record { ok = known contents told; err = tt };
-    causes = record { err = tt };
+    causes = record { ok = refl; err = tt };
     full = tt;
     order = λ items all k. order_none items z view.taken k;
   }
@@ -30,7 +31,7 @@ module _ {A B : Type 0} {wants : ℕ → Type 0} {value : B → A} {expected : (
     read = λ contents told. told.read;
     count = refl;
     answers = λ contents told. record { ok = tt; err = known (lump_bytes contents dir.lumps) };
-    causes = record { err = tt };
+    causes = record { ok = tt; err = refl };
     full = tt;
     order = λ items all k. order_none items z view.taken k;
   }
@@ -62,7 +63,7 @@ module _ {A B C D E F : Type 0} {v w x : ShelfView} {dir : DirectoryView} {a b c
         let told_after_first = told_with one.keeps told (one.read contents told) in
         let next_is_ok = subst (λ (y : Result F (Fault SpriteRefusal)). IfOk y (λ g. part (lump_bytes contents dir.lumps) ≡ Ok (next g))) is (two.answers contents told_after_first).ok in
         record { ok = joins (lump_bytes contents dir.lumps) (one.answers contents told).ok next_is_ok; err = tt };
-    causes = record { err = tt };
+    causes = record { ok = subst (λ (y : Result F (Fault SpriteRefusal)). OnOk y (x.faults ≡ w.faults)) is two.causes.ok ∙ one.causes.ok; err = tt };
     full = tt;
     order = λ items all k.
         let order_so_far = one.order items all k in
@@ -80,7 +81,7 @@ module _ {A B C D E F : Type 0} {v w x : ShelfView} {dir : DirectoryView} {a b c
         let told_after_first = told_with one.keeps told (one.read contents told) in
         let next_is_fault = subst (λ (y : Result F (Fault SpriteRefusal)). IfErr y (λ f. FaultFits w.steady (part (lump_bytes contents dir.lumps)) (itself f))) is (two.answers contents told_after_first).err in
         record { ok = tt; err = reads_at v.steady w.steady (part (lump_bytes contents dir.lumps)) (expected (lump_bytes contents dir.lumps)) (itself fault) one.keeps.follows.steady (λ e h. stops (lump_bytes contents dir.lumps) e (one.answers contents told).ok h) next_is_fault };
-    causes = record { err = cause_later v.faults w.faults x.faults (itself fault) one.keeps.follows.faults (subst (λ (y : Result F (Fault SpriteRefusal)). IfErr y (λ f. HasCauseAt w.faults x.faults (itself f))) is two.causes.err) };
+    causes = record { ok = tt; err = cause_then x.faults (itself fault) one.causes.ok (subst (λ (y : Result F (Fault SpriteRefusal)). IfErr y (λ f. HasCauseAt w.faults x.faults (itself f))) is two.causes.err) };
     full = full_at (itself fault) (λ wanted widest' k. full_for_earlier among one.keeps wanted widest' k) (subst (λ (y : Result F (Fault SpriteRefusal)). IfErr y (λ f. IfFull (itself f) (IsFullFor some dir b))) is two.full);
     order = λ items all k.
         let order_so_far = one.order items all k in
@@ -102,7 +103,7 @@ module _ {v w : ShelfView} {dir : DirectoryView} {a b : Heap} {p q : List (Optio
     read = one.read;
     count = one.count;
     answers = λ contents told. record { ok = tt; err = tt };
-    causes = record { err = tt };
+    causes = record { ok = tt; err = one.causes.ok };
     full = tt;
     order = one.order;
   }

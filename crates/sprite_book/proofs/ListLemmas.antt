@@ -1,5 +1,5 @@
 -- The places of frames, and the lumps of their shapes.
-use Rattle.art_rules.proofs.Common.{[], add-zero, All-contains, All-contains_itself, All-dedup, All-permutation, and_parts, ap, append-nil, arith, Bool, BTreeMap, bytes_eq, bytes_eq-Decides, cond, Contains, Contains-dedup_nat, dedup, eqb, eqb-true, false, find, get, get_or, IsPermutation, IsPermutation-sym, IsSorted, IsStrictlyIncreasing, IsStrictlyIncreasing-dedup, length, List, map, nat_cmp, None, Option, or_else-none_right, position_from, refl, slice_get, Some, subst, suc, sym, take, take_more, true, Updates, ℕ, ◌&&◌, ◌++◌, ◌+◌, ◌<◌, ◌==◌, ◌∙◌, ◌∷◌, ◌≡◌}
+use Rattle.art_rules.proofs.Common.{[], add-zero, All-contains, All-contains_itself, All-dedup, All-permutation, and_parts, ap, append-nil, arith, Bool, BTreeMap, bytes_eq, bytes_eq-Decides, cond, Contains, Contains-dedup_nat, dedup, eqb, eqb-true, false, find, get, get_or, IsPermutation, IsPermutation-sym, IsSorted, IsStrictlyIncreasing, IsStrictlyIncreasing-dedup, length, List, map, nat_cmp, None, or_else-none_right, position_from, refl, slice_get, Some, subst, suc, sym, take, take_more, true, Updates, ℕ, ◌&&◌, ◌++◌, ◌+◌, ◌<◌, ◌==◌, ◌∙◌, ◌∷◌, ◌≡◌}
 use Rattle.sprite_book.specs.Rules.{Frame, Shape, book_lumps, is_frame, joined_lists, or_else, picked, shape_lumps}
 use Rattle.art_rules.proofs.Laws.{joined_lists-append}
 use Rattle.sprite_book.specs.Indexes.{IsPlaceOf, ArePictures, frame_cmp}

@@ -1,5 +1,5 @@
 -- Needs of different frames, as a loop goes over them.
-use Rattle.art_rules.proofs.Common.{[], and_parts, ap, append-nil, Bool, bytes_eq, bytes_eq-Decides, cond, Contains-get_or, drop, eqb-true, Err, false, filter, filter-append, get_or, is_some, is_some-false, length, List, list_any, map, None, not, Ok, Option, position_from, refl, Result, Some, suc, sym, take, take_more, true, ℕ, ◌&&◌, ◌++◌, ◌+◌, ◌<◌, ◌==◌, ◌||◌, ◌∙◌, ◌∷◌, ◌≡◌}
+use Rattle.art_rules.proofs.Common.{[], and_parts, ap, append-nil, Bool, bytes_eq, bytes_eq-Decides, cond, Contains-get_or, drop, eqb-true, Err, false, filter, filter-append, get_or, is_some, is_some-false, length, List, list_any, map, None, not, Ok, position_from, refl, Result, Some, suc, sym, take, take_more, true, ℕ, ◌&&◌, ◌++◌, ◌+◌, ◌<◌, ◌==◌, ◌||◌, ◌∙◌, ◌∷◌, ◌≡◌}
 use Rattle.sprite_book.specs.Rules.{Frame, Lump, Mention, Need, Outline, SpriteRefusal, and_then, each_of, first_needs, is_frame, mention_outline, mentions, outline, outline_in, outline_of, pictures_of, same_frame}
 use Rattle.art_rules.proofs.EachLemmas.{each_of-push, each_of-stop}
 use Rattle.sprite_book.specs.Calls.{IsWanted, IsWantedBy}

@@ -1,7 +1,7 @@
 -- Calls that read sprite lumps: which they may ask for, and which patches were read so far.
-use Rattle.std.specs.Prelude.{◌≡◌, ◌≤◌, ℕ, List, length, Option, Some, None, IfSome, IfErr, MatchResult, Result, Ok, Contains, slice_index_or}
+use Rattle.std.specs.Prelude.{◌≡◌, ◌≤◌, ℕ, List, length, Option, Some, None, IfSome, IfErr, Result, Ok, Contains, slice_index_or}
 use Rattle.sprite_book.specs.Rules.{Fault, HasCauses, Lump, Mention, Need, Patch, ResultIs, ShelfView, SpriteRefusal, itself, lump_bytes, mentions, patch_of, pictures_of}
-use Rattle.lump_cache.specs.{Zones.Heap, Orders.Item, Orders.IsInOrder, Orders.KeepsOrder}
+use Rattle.lump_cache.specs.{Zones.Heap, Orders.Item, Orders.IsInOrder}
 use Rattle.lump_cache.specs.DirectoryView.{DirectoryView}
 use Rattle.lump_cache.specs.Calls.{PreservesCache, HoldContents, IsFullFor, IfFull, LeavesInOrder, HasAll}
 

@@ -1,7 +1,7 @@
 -- The steps by which a composite is built, one after another.
-use Rattle.art_rules.proofs.Common.{[], ap, arith, Contains, Err, err_from_is_err_and, false, IfErr, IsErrAnd, List, MatchResult, Ok, refl, Result, subst, sym, ℕ, ◌+◌, ◌<◌, ◌∙◌, ◌∷◌, ◌≡◌, ◌≤◌}
-use Rattle.texture_build.specs.Rules.{FaultsRose, HasCauses, Lump, PlacedPatch, PreparedTexture, ResultIs, ShelfView, lump_at}
-use Rattle.art_rules.proofs.Laws.{all_stand_later, follows_then}
+use Rattle.art_rules.proofs.Common.{[], ap, arith, Contains, Err, err_from_is_err_and, false, IfErr, IsErrAnd, List, MatchResult, Ok, refl, Result, subst, sym, ℕ, ◌+◌, ◌<◌, ◌∙◌, ◌∷◌, ◌≡◌}
+use Rattle.texture_build.specs.Rules.{Lump, PlacedPatch, PreparedTexture, ResultIs, ShelfView, lump_at}
+use Rattle.art_rules.proofs.Laws.{all_stand_later, causes_then, follows_then}
 use Rattle.lump_cache.specs.Zones.{Owner, Heap, owned_block, block_size, same_owner}
 use Rattle.lump_cache.specs.{Orders.Item, Orders.KeepsOrder, DirectoryView.DirectoryView}
 use Rattle.lump_cache.proofs.GapLemmas.{small_all}
@@ -22,14 +22,7 @@ same_error result fault P is k = let error_is = err_from_is_err_and result is in
 pub counts_then : (x y z : Heap) → KeepsCounts x y → KeepsCounts y z → KeepsCounts x z
 counts_then x y z first next = (next.0 ∙ first.0, next.1 ∙ first.1, next.2 ∙ first.2)
 
--- a call's causes, and its answer, counted from before it
-pub causes_earlier : (a b c : ℕ) (result : Result (Unit {0}) CacheFault) → a ≤ b → HasCauses cache_fault b c result → HasCauses cache_fault a c result
-causes_earlier a b c (Ok done) h k = record { err = tt }
-causes_earlier a b c (Err (ZoneFull wanted widest')) h k = record { err = tt }
-causes_earlier a b c (Err ReadFault) h k = record { err = rose a b c h k.err } where
-  rose : (a b c : ℕ) → a ≤ b → FaultsRose b c → FaultsRose a c
-  rose a b c h r = omega (arith, h, r)
-
+-- a call's answer, counted from before it
 pub order_after : (items : List Item) (x y z : Heap) (a b c : ℕ) (result : Result (Unit {0}) CacheFault) → KeepsOrder items x y a b → MatchResult result (λ _. KeepsOrder items y z b c) (λ fault. InOrderAt (cache_fault fault) (KeepsOrder items y z b c)) →
     MatchResult result (λ _. KeepsOrder items x z a c) (λ fault. InOrderAt (cache_fault fault) (KeepsOrder items x z a c))
 order_after items x y z a b c (Ok done) k next = order_then k next
@@ -96,7 +89,7 @@ module _ {number : ℕ} {t : PreparedTexture} {i j k : ℕ} {u v w : ShelfView} 
   puts_then {result} first next = record {
     keeps = keeps_build_then first.keeps next.keeps;
     answers = λ contents stand within. subst (λ s. ResultIs cache_fault s (λ (done : Unit {0}). done) (Ok tt) result) first.keeps.follows.steady (next.answers contents (all_stand_later u v dir.files contents first.keeps.follows stand) within);
-    causes = causes_earlier u.faults v.faults w.faults result first.keeps.follows.faults next.causes;
+    causes = causes_then first.causes.ok next.causes;
     full = full_earlier t first.keeps result next.full;
     order = λ items all ord. let ordered_before = first.order items all ord in order_after items x y z u.taken v.taken w.taken result ordered_before (next.order items all ordered_before.order);
     put = λ contents told has. next.put contents (told_build first.keeps told) (first.put contents told has);

@@ -1,12 +1,12 @@
 -- Laws of calls that draw: none, one after another, one that ends the whole, and a layer above.
 use Rattle.art_rules.proofs.Common.{ap, Err, err_from_is_err_and, inl, inr, IsErrAnd, IsTrue, List, MatchResult, Ok, OnOk, refl, Result, subst, sym, ℕ, ℤ, ◌∙◌, ◌≡◌, ◌⊎◌}
-use Rattle.art_rules.specs.Words.{Fault, fault_above, HasCauseAt, OutOfMemory, ReadFault, Refused, ShelfView, ZoneFull}
-use Rattle.art_rules.proofs.Laws.{all_stand_later, follows_none, follows_then}
+use Rattle.art_rules.specs.Words.{Fault, fault_above, OutOfMemory, ReadFault, Refused, ShelfView, ZoneFull}
+use Rattle.art_rules.proofs.Laws.{all_stand_later, cause_above, cause_then, follows_none, follows_then}
 use Rattle.lump_cache.specs.{Zones.Heap, Zones.block_size, Orders.Item, Orders.KeepsOrder}
 use Rattle.zone_rules.proofs.OrderLemmas.{order_none, order_then}
 use Rattle.lump_cache.specs.DirectoryView.{DirectoryView}
 use Rattle.lump_cache.specs.Calls.{HoldContents, IfFull, InOrderAt, IsFullFor}
-use Rattle.lump_cache.proofs.CallLemmas.{cause_later, full_at, order_at, result_above}
+use Rattle.lump_cache.proofs.CallLemmas.{full_at, order_at, result_above}
 use Rattle.lump_cache.specs.Sizes.{IsGapBeside}
 use Rattle.texture_build.specs.Asked.{IsGapBesideComposite, IsPatch, size_of}
 use Rattle.texture_build.specs.Sources.{IsComposedColumn, column_in}
@@ -123,7 +123,7 @@ module _ {A E R : Type 0} {fault_of : E → Fault R} {among : ℕ → ℤ → Ty
       DrawsWith fault_of among pictures view view dir textures z z (Ok answer)
   draws-none view dir textures z answer = record {
     keeps = keeps_art-none view dir textures z;
-    causes = record { err = tt };
+    causes = record { ok = refl; err = tt };
     steady = λ contents stand within steady. tt;
     full = tt;
     order = λ items asked all k. order_none items z view.taken k;
@@ -144,7 +144,7 @@ module _ {A E R : Type 0} {fault_of : E → Fault R} {among : ℕ → ℤ → Ty
       DrawsWith fault_of among pictures v w dir textures x y (Ok answer)
   draws-value first answer one = record {
     keeps = one.keeps;
-    causes = record { err = tt };
+    causes = record { ok = one.causes.ok; err = tt };
     steady = λ contents stand within steady. tt;
     full = tt;
     order = one.order;
@@ -161,7 +161,7 @@ module _ {A E R : Type 0} {fault_of : E → Fault R} {among : ℕ → ℤ → Ty
       let error_is = err_from_is_err_and whole is in
       draws-as (sym (error_is.1 ∙ ap Err error_is.2)) (record {
         keeps = fault_draws.keeps;
-        causes = record { err = fault_draws.causes.err };
+        causes = record { ok = tt; err = fault_draws.causes.err };
         steady = λ contents stand within steady. fault_draws.steady contents stand within steady;
         full = fault_draws.full;
         order = fault_draws.order;
@@ -175,7 +175,7 @@ module _ {A E R : Type 0} {fault_of : E → Fault R} {among : ℕ → ℤ → Ty
       DrawsWith fault_of among pictures v u dir textures x z result
   draws-then {v = v} {w} {dir = dir} {result = Ok answer} one two = record {
     keeps = keeps_art-then one.keeps two.keeps;
-    causes = record { err = tt };
+    causes = record { ok = two.causes.ok ∙ one.causes.ok; err = tt };
     steady = λ contents stand within steady. tt;
     full = tt;
     order = λ items asked all k.
@@ -184,10 +184,7 @@ module _ {A E R : Type 0} {fault_of : E → Fault R} {among : ℕ → ℤ → Ty
   }
   draws-then {v = v} {w} {u} {dir} {z = z} {result = Err fault} one two = record {
     keeps = keeps_art-then one.keeps two.keeps;
-    causes = record {
-      err = cause_later v.faults w.faults u.faults (fault_of fault) one.keeps.follows.faults
-          two.causes.err;
-    };
+    causes = record { ok = tt; err = cause_then u.faults (fault_of fault) one.causes.ok two.causes.err };
     steady = λ contents stand within steady. two.steady contents
         (all_stand_later v w dir.files contents one.keeps.follows stand) within
         (subst IsTrue (sym one.keeps.follows.steady) steady);
@@ -207,7 +204,7 @@ pub draws-wider : {A E R : Type 0} {fault_of : E → Fault R} {some among : ℕ 
     DrawsWith fault_of among pictures v w dir textures x y result
 draws-wider {result = Ok answer} wider more one = record {
   keeps = one.keeps;
-  causes = record { err = tt };
+  causes = record { ok = one.causes.ok; err = tt };
   steady = λ contents stand within steady. tt;
   full = tt;
   order = λ items asked all k. one.order items
@@ -217,20 +214,13 @@ draws-wider {result = Ok answer} wider more one = record {
 draws-wider {fault_of = fault_of} {v = v} {dir = dir} {textures} {x} {result = Err fault} wider more one =
     record {
       keeps = one.keeps;
-      causes = record { err = one.causes.err };
+      causes = record { ok = tt; err = one.causes.err };
       steady = λ contents stand within steady. one.steady contents stand within steady;
       full = full_at (fault_of fault) (full-earlier (keeps_art-none v dir textures x) wider more) one.full;
       order = λ items asked all k. one.order items
           (λ number column is. asked number column (wider number column is))
           (λ lump is. all lump (more lump is)) k;
     }
-
-cause_up : {R Q : Type 0} (f : R → Q) (before now : ℕ) (fault : Fault R) →
-    HasCauseAt before now fault → HasCauseAt before now (fault_above f fault)
-cause_up f before now (Refused reason) k = tt
-cause_up f before now ReadFault k = k
-cause_up f before now (ZoneFull wanted widest) k = tt
-cause_up f before now OutOfMemory k = tt
 
 read_up : {R Q : Type 0} (f : R → Q) (fault : Fault R) → IsNoReadFault fault →
     IsNoReadFault (fault_above f fault)
@@ -262,14 +252,14 @@ pub draws-above : {A E R Q G : Type 0} {fault_of : E → Fault R} {high : G → 
     DrawsWith high among pictures v w dir textures x y (result_above above result)
 draws-above f above same (Ok answer) one = record {
   keeps = one.keeps;
-  causes = record { err = tt };
+  causes = record { ok = one.causes.ok; err = tt };
   steady = λ contents stand within steady. tt;
   full = tt;
   order = one.order;
 }
 draws-above {fault_of = fault_of} {among = among} {pictures} {v} {w} {dir} {textures} {x} {y} f above same (Err e) one = record {
   keeps = one.keeps;
-  causes = record { err = rw (same e) (cause_up f v.faults w.faults (fault_of e) one.causes.err) };
+  causes = record { ok = tt; err = rw (same e) (cause_above f v.faults w.faults (fault_of e) one.causes.err) };
   steady = λ contents stand within steady. rw (same e)
       (read_up f (fault_of e) (one.steady contents stand within steady));
   full = rw (same e) (full_up (λ wanted widest.

@@ -29,7 +29,7 @@ returns-in_err-begin_composite g c = λ place.
       answers = λ contents stand within. rw result_is (record { ok = tt; err = tt });
       live = rw result_is tt;
       follows = follows_none (g.S.Shelf.view c.args.shelf.now);
-      causes = rw result_is (record { err = tt });
+      causes = rw result_is (record { ok = tt; err = refl });
       counts = fails.counts;
       rest = fails.rest;
       faithful = λ contents stand k. fails.faithful contents c.args.dir.now.lumps k;

@@ -56,7 +56,7 @@ returns g c = λ n at.
         building = λ size b. building_same size (release_others lump put lump_released.cache owner refl) (filled_building patch_put size (building_same size (lump_fetched.pinned owner refl b.pinned) b));
       };
       answers = fetches.answers;
-      causes = record { err = tt };
+      causes = record { ok = fetches.causes.ok; err = tt };
       full = tt;
       order = λ items all k.
           let fetch_in_order = lump_fetched.order items (all _ _ (c.args.patch.now, c.requires.among, refl, refl)) k in
