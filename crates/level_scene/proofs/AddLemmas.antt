@@ -35,7 +35,7 @@ module _ {v w : ShelfView} {dir : DirectoryView} {a b : Heap} (lump : MapLump) (
       record {
         keeps = fetched.keeps;
         answers = λ contents t. record { ok = ap (lump_added old lump) (sym (known contents t)) ∙ added_of_small old lump live size_not_refused ∙ ap Ok (sym is); err = tt };
-        causes = record { err = tt };
+        causes = record { ok = fetched.causes.ok; err = tt };
         full = tt;
         order = fetched.order;
       }
@@ -45,14 +45,14 @@ module _ {v w : ShelfView} {dir : DirectoryView} {a b : Heap} (lump : MapLump) (
   stopped (Refused refusal) was = record {
     keeps = fetched.keeps;
     answers = λ contents t. record { ok = tt; err = ap (lump_added old lump) (sym (known contents t)) ∙ added_of_large old lump live refusal ((sizes refusal).0 was) };
-    causes = record { err = tt };
+    causes = record { ok = tt; err = fetched.causes.ok };
     full = tt;
     order = fetched.order;
   }
   stopped OutOfMemory was = record {
     keeps = fetched.keeps;
     answers = λ contents t. record { ok = tt; err = tt };
-    causes = record { err = tt };
+    causes = record { ok = tt; err = fetched.causes.ok };
     full = tt;
     order = fetched.order;
   }

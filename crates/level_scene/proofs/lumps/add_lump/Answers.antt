@@ -1,8 +1,5 @@
-use Rattle.std.proofs.Common.{ap}
 use Rattle.map_lumps.specs.Builders.{BuilderValue, with_lump}
-use Rattle.art_rules.proofs.Laws.{done_through}
 use Rattle.lump_cache.proofs.SizeLemmas.{beside_earlier, beside_lent}
-use Rattle.level_scene.specs.Faults.{map_fault}
 use Rattle.level_scene.proofs.AddLemmas.{same_bytes, add_done, added_done, fits_done}
 use Rattle.level_scene.proofs.lumps.add_lump.Goals as goal
 
