@@ -1,14 +1,8 @@
 -- What is known of a call whose fault is named as the layer above names it.
 use Rattle.picture_rules.proofs.Common.{Bool, Err, err_from_is_err_and, IfErr, MatchResult, Ok, refl, Result, ℕ, ◌≡◌}
 use Rattle.art_rules.specs.Words.{Fault, fault_above, from_below, HasCauseAt, HasCauses, itself, OutOfMemory, ReadFault, Refused, ResultIs, ZoneFull}
-use Rattle.art_rules.proofs.Laws.{IsThrough, last_stop}
+use Rattle.art_rules.proofs.Laws.{IsThrough, cause_above, last_stop}
 use Rattle.lump_cache.specs.Calls.{IfFull, InOrderAt}
-
-cause_above : {R Q : Type 0} (lift : R → Q) (before now : ℕ) (fault : Fault R) → HasCauseAt before now fault → HasCauseAt before now (fault_above lift fault)
-cause_above lift before now (Refused reason) h = tt
-cause_above lift before now ReadFault h = h
-cause_above lift before now (ZoneFull wanted widest) h = tt
-cause_above lift before now OutOfMemory h = tt
 
 full_above : {R Q : Type 0} (lift : R → Q) (P : ℕ → ℕ → Type 0) (fault : Fault R) → IfFull fault P → IfFull (fault_above lift fault) P
 full_above lift P (Refused reason) h = tt
@@ -36,11 +30,11 @@ module _ {B R Q E : Type 0} (fault_of : E → Fault R) (lift : R → Q) where
 
   -- a read that failed has its cause
   pub causes_above : {before now : ℕ} (one : Result B E) (result : Result B (Fault Q)) → IsNamedAbove one result → HasCauses fault_of before now one → HasCauses itself before now result
-  causes_above (Ok x) result is causes = rw is (record { err = tt })
+  causes_above (Ok x) result is causes = rw is (record { ok = causes.ok; err = tt })
   causes_above {before} {now} (Err fault) result is causes =
       let result_is_error = err_from_is_err_and result is in
       let fault_has_cause : HasCauseAt before now (itself result_is_error.0) = rw result_is_error.2 (cause_above lift before now (fault_of fault) causes.err) in
-      rw result_is_error.1 (record { err = fault_has_cause })
+      rw result_is_error.1 (record { ok = tt; err = fault_has_cause })
 
   -- what is said of a full zone
   pub fulls_above : (P : ℕ → ℕ → Type 0) (one : Result B E) (result : Result B (Fault Q)) → IsNamedAbove one result → IfErr one (λ fault. IfFull (fault_of fault) P) → IfErr result (λ fault. IfFull (itself fault) P)

@@ -58,6 +58,8 @@ pub fn deliver_flat<K: Sink>(picture: &Picture, out: &mut K) -> Status
         (K.written out.old) (K.written out.new) result }
     ensures write_fault { result ≡ Status.WriteFault →
         FaultsRose (K.faults out.old) (K.faults out.new) }
+    ensures write_settled { (result ≡ Status.WriteFault → ⊥) →
+        K.faults out.new ≡ K.faults out.old }
 {
     match put_ppm(out, picture.frame(), picture.playpal()) {
         Ok(()) => Status::Done,

@@ -24,6 +24,7 @@ fn fill_front<S: Shelf>(
     ensures follows { IsLaterShelf (S.view shelf.old) (S.view shelf.new) }
     ensures taken { (S.view shelf.new).taken ≤ (S.view shelf.old).taken + length piece.old }
     ensures failed { OnErr result (FaultsRose (S.view shelf.old).faults (S.view shelf.new).faults) }
+    ensures settled { OnOk result ((S.view shelf.new).faults ≡ (S.view shelf.old).faults) }
     ensures steady { (contents : List (List ℕ)) →
         NameFiles (S.view shelf.old) dir.now.files contents → AllWithin contents dir.now.lumps →
         IsTrue (S.view shelf.old).steady → IsOk result }

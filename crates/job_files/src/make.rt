@@ -34,6 +34,8 @@ pub fn deliver_make<K: Sink>(bytes: &[u8], out: &mut K) -> Status
     ensures ends { DeliversBytes bytes.now (K.written out.old) (K.written out.new) result }
     ensures write_fault { result ≡ Status.WriteFault →
         FaultsRose (K.faults out.old) (K.faults out.new) }
+    ensures write_settled { (result ≡ Status.WriteFault → ⊥) →
+        K.faults out.new ≡ K.faults out.old }
 {
     match out.put(bytes) {
         Ok(()) => Status::Done,

@@ -44,7 +44,7 @@ fn check_tables(alloc: Global, bytes: &[u8], settings: &Settings) -> Result<Tabl
     requires greatest { settings.now.size ≤ MAX_SIZE }
     ensures answers { ResultIs itself true (λ tables. tables)
         (tables_file settings.now bytes.now) result }
-    ensures causes { (before now : ℕ) → HasCauses itself before now result }
+    ensures causes { (faults : ℕ) → HasCauses itself faults faults result }
     ensures full { IsNeverFull result }
     ensures size { IfOk result (λ tables. tables.size ≡ settings.now.size) }
 {

@@ -72,7 +72,7 @@ pub fn load_things<S: Shelf>(
 
 fn check_things(alloc: Global, bytes: &[u8]) -> Result<ThingTable, LoadFault>
     ensures answers { ResultIs itself true (λ things. things) (things_file bytes.now) result }
-    ensures causes { (before now : ℕ) → HasCauses itself before now result }
+    ensures causes { (faults : ℕ) → HasCauses itself faults faults result }
     ensures full { IsNeverFull result }
 {
     match ThingTable::read(alloc, bytes) {
@@ -101,7 +101,7 @@ pub fn load_path<S: Shelf>(alloc: Global, shelf: &mut S, name: &str) -> Result<P
 
 fn check_path(alloc: Global, bytes: &[u8]) -> Result<PathTable, LoadFault>
     ensures answers { ResultIs itself true (λ path. path) (path_file bytes.now) result }
-    ensures causes { (before now : ℕ) → HasCauses itself before now result }
+    ensures causes { (faults : ℕ) → HasCauses itself faults faults result }
     ensures full { IsNeverFull result }
 {
     match PathTable::read(alloc, bytes) {
@@ -154,7 +154,7 @@ fn load_layers<S: Shelf>(alloc: Global, shelf: &mut S, name: &str) -> Result<Wea
 
 fn check_layers(alloc: Global, bytes: &[u8]) -> Result<WeaponTable, LoadFault>
     ensures answers { ResultIs itself true (λ weapons. weapons) (weapons_file bytes.now) result }
-    ensures causes { (before now : ℕ) → HasCauses itself before now result }
+    ensures causes { (faults : ℕ) → HasCauses itself faults faults result }
     ensures full { IsNeverFull result }
 {
     match WeaponTable::read(alloc, bytes) {

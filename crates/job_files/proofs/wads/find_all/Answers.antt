@@ -7,6 +7,7 @@ pub loop-name-init : goal.loop-name-init
 loop-name-init g c = record {
   count = ap length c.new-numbers.ensures.items;
   follows = follows_none (g.S.Shelf.view c.args.shelf.now);
+  settled = refl;
   untaken = refl;
   found = λ files holds. none_found _ _ files c.new-numbers.ensures.items;
 }
@@ -23,6 +24,7 @@ pub loop-name-preserved : goal.loop-name-preserved
 loop-name-preserved g c = record {
   count = omega (arith, ap length c.in_ok-push.ensures.items, length-append c.loop-name.numbers.items (c.in_ok-number.number ∷ []));
   follows = follows_then c.loop-name.invariant.follows c.find.ensures.follows;
+  settled = c.in_ok-number.ensures.settled ∙ c.loop-name.invariant.settled;
   untaken = c.find.ensures.untaken ∙ c.loop-name.invariant.untaken;
   found = λ files holds.
       let files_hold = c.loop-name.invariant.follows.all_files ∙ holds in
