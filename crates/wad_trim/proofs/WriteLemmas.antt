@@ -20,15 +20,17 @@ in_order_at (Err WriteFault) f k = f k
 in_order_at (Err (ZoneFull wanted widest)) f k = k
 
 -- nothing was written
-wrote_none : {v w : ShelfView} {dir : DirectoryView} {a b : Heap} {wants : ℕ → Type 0} (p : List ℕ → Type 0) (i : ℕ) → PreservesCache v w dir a b →
+wrote_none : {v w : ShelfView} {dir : DirectoryView} {a b : Heap} {wants : ℕ → Type 0} (p : List ℕ → Type 0) (i : ℕ) → PreservesCache v w dir a b → w.faults ≡ v.faults →
     ((items : List Item) → HasAll items dir wants → IsInOrder items a → KeepsOrder items a b v.taken w.taken) → WritesLumps v w dir a b p p i i wants (λ bytes. []) (Ok tt)
-wrote_none p i keeps order = record {
+wrote_none p i keeps settled order = record {
   keeps = keeps;
   ok = λ contents hold. grew_none p;
   err = λ contents hold. tt;
   read_fault = λ e. absurd (cc);
+  read_settled = λ other. settled;
   steady = λ contents hold steady e. cc;
   write_fault = λ e. absurd (cc);
+  write_settled = λ other. refl;
   later_faults = omega arith;
   full = λ wanted widest e. absurd (cc);
   order = order;
@@ -37,7 +39,7 @@ wrote_none p i keeps order = record {
 -- nor was anything read
 pub lumps-none : (view : ShelfView) (dir : DirectoryView) (z : Heap) (written : List ℕ → Type 0) (faults : ℕ) (wants : ℕ → Type 0) →
     WritesLumps view view dir z z written written faults faults wants (λ bytes. []) (Ok tt)
-lumps-none view dir z written faults wants = wrote_none written faults (keeps_none view dir z) (λ items all o. order_none items z view.taken o)
+lumps-none view dir z written faults wants = wrote_none written faults (keeps_none view dir z) refl (λ items all o. order_none items z view.taken o)
 
 -- a call, and behind it another, whatever that answers
 pub lumps-then : {v w x : ShelfView} {dir : DirectoryView} {a b c : Heap} {p q r : List ℕ → Type 0} {i j k : ℕ} {early late wants : ℕ → Type 0} {before after : (ℕ → List ℕ) → List ℕ}
@@ -50,17 +52,17 @@ lumps-then {v} {w} {x} {dir} {a} {b} {c} {p} {q} {r} {i} {j} {k} result expected
   keeps = keeps_then one.keeps two.keeps;
   ok = λ contents hold. on_ok_weaker result (λ h. grew_more (expected (lump_bytes contents dir.lumps)) (one.ok contents hold) h (same contents hold)) (two.ok contents (told_later one.keeps hold));
   err = λ contents hold. on_err_weaker result (λ h. grew_partly (expected (lump_bytes contents dir.lumps)) (one.ok contents hold) h (same contents hold)) (two.err contents (told_later one.keeps hold));
-  read_fault = λ e. risen v.faults w.faults x.faults one.keeps.follows.faults (two.read_fault e);
+  read_fault = λ e. subst (λ n. FaultsRose n x.faults) (one.read_settled (λ is. cc)) (two.read_fault e);
+  read_settled = λ other. two.read_settled other ∙ one.read_settled (λ is. cc);
   steady = λ contents hold steady e. two.steady contents (told_later one.keeps hold) (subst IsTrue (sym one.keeps.follows.steady) steady) e;
-  write_fault = λ e. risen i j k one.later_faults (two.write_fault e);
+  write_fault = λ e. subst (λ n. FaultsRose n k) (one.write_settled (λ is. cc)) (two.write_fault e);
+  write_settled = λ other. two.write_settled other ∙ one.write_settled (λ is. cc);
   later_faults = omega (arith, one.later_faults, two.later_faults);
   full = λ wanted widest e. full_for_earlier later one.keeps wanted widest (two.full wanted widest e);
   order = λ items all o.
       let order_before = one.order items (λ n s. all n (earlier n s)) o in
       in_order_at result (λ next. order_then order_before next) (two.order items (λ n s. all n (later n s)) order_before.order);
-} where
-  risen : (l m n : ℕ) → l ≤ m → FaultsRose m n → FaultsRose l n
-  risen l m n le rose = omega (arith, le, rose)
+}
 
 -- the same bytes by another word, and more that may be asked for
 pub lumps-as : {v w : ShelfView} {dir : DirectoryView} {a b : Heap} {p q : List ℕ → Type 0} {i j : ℕ} {some wants : ℕ → Type 0} {before : (ℕ → List ℕ) → List ℕ}
@@ -80,8 +82,10 @@ lumps-stop {v} {w} {dir} {a} {b} fault rest expected one wider same = record {
   ok = λ contents hold. tt;
   err = λ contents hold. prefix_of_more (rest (lump_bytes contents dir.lumps)) (expected (lump_bytes contents dir.lumps)) (one.err contents hold) (same contents hold);
   read_fault = one.read_fault;
+  read_settled = one.read_settled;
   steady = one.steady;
   write_fault = one.write_fault;
+  write_settled = one.write_settled;
   later_faults = one.later_faults;
   full = λ wanted widest e. full_for_earlier wider (keeps_none v dir a) wanted widest (one.full wanted widest e);
   order = λ items all o. one.order items (λ n s. all n (wider n s)) o;
@@ -103,8 +107,10 @@ put_whole view dir z {p} {q} {i} {j} {piece} wants result unit put is = record {
   ok = λ contents hold. subst (λ (r : Result (Unit {0}) Failed). OnOk r (Grew p q piece)) is put.ok;
   err = λ contents hold. tt;
   read_fault = λ e. absurd (cc);
+  read_settled = λ other. refl;
   steady = λ contents hold steady e. cc;
   write_fault = λ e. absurd (cc);
+  write_settled = λ other. subst (λ (r : Result (Unit {0}) Failed). OnOk r (j ≡ i)) is put.settled;
   later_faults = put.later;
   full = λ wanted widest e. absurd (cc);
   order = λ items all o. order_none items z view.taken o;
@@ -117,8 +123,10 @@ put_partly view dir z {p} {q} {i} {j} {piece} wants result failed put is = recor
   ok = λ contents hold. tt;
   err = λ contents hold. subst (λ (r : Result (Unit {0}) Failed). OnErr r (GrewByPrefix p q piece)) is put.err;
   read_fault = λ e. absurd (cc);
+  read_settled = λ other. refl;
   steady = λ contents hold steady e. cc;
   write_fault = λ e. subst (λ (r : Result (Unit {0}) Failed). OnErr r (FaultsRose i j)) is put.failed;
+  write_settled = λ other. absurd (other refl);
   later_faults = put.later;
   full = λ wanted widest e. absurd (cc);
   order = λ items all o. order_none items z view.taken o;
@@ -151,14 +159,16 @@ fetch_writes : {v w : ShelfView} {dir : DirectoryView} {a b : Heap} {wants : ℕ
     ReadsLumps cache_fault v w dir a b wants (λ (done : Unit {0}). done) (λ bytes. Ok tt) result →
     WritesLumps v w dir a b p p i i wants (λ bytes. []) (fetch_answer result)
 unfolding fetch_answer
-fetch_writes p i (Ok unit) one = wrote_none p i one.keeps one.order
+fetch_writes p i (Ok unit) one = wrote_none p i one.keeps one.causes.ok one.order
 fetch_writes p i (Err cache.ReadFault) one = record {
   keeps = one.keeps;
   ok = λ contents hold. tt;
   err = λ contents hold. prefix_none p [];
   read_fault = λ e. one.causes.err;
+  read_settled = λ other. absurd (other refl);
   steady = λ contents hold steady e. (one.answers contents hold).err steady;
   write_fault = λ e. absurd (cc);
+  write_settled = λ other. refl;
   later_faults = omega arith;
   full = λ wanted widest e. absurd (cc);
   order = λ items all o. tt;
@@ -168,8 +178,10 @@ fetch_writes {v} {w} {dir} {a} {b} {wants} p i (Err (cache.ZoneFull much most)) 
   ok = λ contents hold. tt;
   err = λ contents hold. prefix_none p [];
   read_fault = λ e. absurd (cc);
+  read_settled = λ other. one.causes.err;
   steady = λ contents hold steady e. cc;
   write_fault = λ e. absurd (cc);
+  write_settled = λ other. refl;
   later_faults = omega arith;
   full = λ wanted widest e.
       let wanted_same : much ≡ wanted = cc in

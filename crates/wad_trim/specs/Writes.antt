@@ -34,9 +34,13 @@ pub record WritesLumps (view after : ShelfView) (dir : DirectoryView) (old new :
   pub err : (contents : List (List ℕ)) → HoldContents view dir old contents →
       OnErr result (GrewByPrefix written now (expected (lump_bytes contents dir.lumps)))
   pub read_fault : result ≡ Err ReadFault → FaultsRose view.faults after.faults
+  -- unless a read fails, the shelf's count of faults is as it was
+  pub read_settled : (result ≡ Err ReadFault → ⊥) → after.faults ≡ view.faults
   pub steady : (contents : List (List ℕ)) → HoldContents view dir old contents → IsTrue view.steady →
       result ≡ Err ReadFault → ⊥
   pub write_fault : result ≡ Err WriteFault → FaultsRose faults later
+  -- unless a write fails, the output's count of faults is as it was
+  pub write_settled : (result ≡ Err WriteFault → ⊥) → later ≡ faults
   pub later_faults : faults ≤ later
   pub full : (wanted widest : ℕ) → result ≡ Err (ZoneFull wanted widest) → IsFullFor wants dir old wanted widest
   pub order : (items : List Item) → HasAll items dir wants → IsInOrder items old →
