@@ -237,7 +237,7 @@ refused_by {mark} {t} {among} {pictures} {Q} {asked} dots st limit.Planes count 
     record {
       painted = λ contents count q hold is. tt;
       fits = λ contents count q hold is. tt;
-      draws = record { keeps = nothing.draws.keeps; causes = record { err = tt }; steady = λ contents stand within steady. tt; full = tt; order = λ items wanted all k. nothing.draws.order items wanted all k };
+      draws = record { keeps = nothing.draws.keeps; causes = record { ok = tt; err = refl }; steady = λ contents stand within steady. tt; full = tt; order = λ items wanted all k. nothing.draws.order items wanted all k };
       place = nothing.place;
     }
 refused_by {mark} {t} {among} {pictures} {Q} {asked} dots st limit.Openings count =
@@ -245,7 +245,7 @@ refused_by {mark} {t} {among} {pictures} {Q} {asked} dots st limit.Openings coun
     record {
       painted = λ contents count q hold is. tt;
       fits = λ contents count q hold is. tt;
-      draws = record { keeps = nothing.draws.keeps; causes = record { err = tt }; steady = λ contents stand within steady. tt; full = tt; order = λ items wanted all k. nothing.draws.order items wanted all k };
+      draws = record { keeps = nothing.draws.keeps; causes = record { ok = tt; err = refl }; steady = λ contents stand within steady. tt; full = tt; order = λ items wanted all k. nothing.draws.order items wanted all k };
       place = nothing.place;
     }
 
