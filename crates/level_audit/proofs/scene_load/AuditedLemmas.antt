@@ -1,8 +1,7 @@
 -- What is told of an audit of the scene, and then of the weapon layers.
-use Rattle.level_audit.specs.Rules.{AuditRefusal, Fault, FaultFits, Frame, HasCauseAt, HasCauses, LevelJobValue, Lump, OutOfMemory, ReadFault, Refused, ResultIs, SceneValue, ZoneFull, and_then, itself, scene_in}
+use Rattle.level_audit.specs.Rules.{AuditRefusal, Fault, FaultFits, Frame, LevelJobValue, Lump, OutOfMemory, ReadFault, Refused, ResultIs, SceneValue, ZoneFull, and_then, itself, scene_in}
 use Rattle.art_rules.proofs.Common.{ap, Bool, Err, err_from_is_err_and, IfErr, IfOk, IsErrAnd, List, None, Ok, Option, refl, Result, Some, subst, sym, ℕ, ◌∙◌, ◌≡◌, ◌≤◌}
 use Rattle.art_rules.proofs.Laws.{and_then-ok, step}
-use Rattle.texture_build.proofs.CallLemmas.{cause_later}
 use Rattle.job_files.specs.Files.{FilesValue}
 use Rattle.sound_scene.specs.Sound.{SoundValue, with_book}
 use Rattle.level_audit.specs.scene_load.Loads.{LoadedValue, audited_in, audited_value, weapons_of, with_layers}
@@ -50,13 +49,6 @@ audited_by P bytes level found loaded e each =
     let weapons_ok = and_then-ok (weapons_of bytes found.lumps found.weapons) _ loaded scene_ok.2 in
     let loaded_is : ◌≡◌ {A = LoadedValue} (record { files = found; scene = scene_ok.0; weapons = weapons_ok.0 }) loaded = cc (weapons_ok.2) in
     subst P loaded_is (each scene_ok.0 weapons_ok.0 scene_ok.1 weapons_ok.1)
-
--- a read that failed later has made the count rise
-pub causes_after : {B D R : Type 0} {before between now : ℕ} (r : Result D (Fault R)) (fault : Fault R) (result : Result B (Fault R)) → before ≤ between → HasCauses itself between now r → r ≡ Err fault → IsErrAnd result (λ e. e ≡ fault) → HasCauses itself before now result
-causes_after {B} {D} {R} {before} {between} {now} r fault result later causes was is =
-    let error_is = err_from_is_err_and result is in
-    let cause : HasCauseAt between now (itself fault) = subst (λ (y : Result D (Fault R)). IfErr y (λ f. HasCauseAt between now (itself f))) was causes.err in
-    record { err = subst (λ (y : Result B (Fault R)). IfErr y (λ f. HasCauseAt before now (itself f))) (sym (error_is.1 ∙ ap Err error_is.2)) (cause_later before between now (itself fault) later cause) }
 
 -- a call that stopped gives no value of which anything has to hold
 pub none_given : {B E : Type 0} (P : B → Type 0) (fault : E) (result : Result B E) → IsErrAnd result (λ e. e ≡ fault) → IfOk result P

@@ -1,6 +1,6 @@
 -- What is told of a job's loading, step after step.
 use Rattle.art_rules.proofs.Common.{ap, Bool, Err, err_from_is_err_and, IfErr, IsErrAnd, List, Ok, refl, Result, Some, sym, ℕ, ◌∙◌, ◌≡◌}
-use Rattle.level_audit.specs.Rules.{AllWithin, AuditRefusal, Fault, FaultFits, FaultFitsOrAbsent, File, HasCauseAt, HasCauses, Heap, LevelJobValue, NameFiles, OutOfMemory, ResultIs, ResultIsOrAbsent, ShelfView, Stop, from_below, itself, no_file}
+use Rattle.level_audit.specs.Rules.{AllWithin, AuditRefusal, Fault, FaultFits, FaultFitsOrAbsent, File, Heap, LevelJobValue, NameFiles, OutOfMemory, ResultIs, ResultIsOrAbsent, ShelfView, Stop, from_below, itself, no_file}
 use Rattle.texture_build.specs.{DirectoryView.DirectoryView, Caches.IsFaithful}
 use Rattle.texture_build.specs.Calls.{IfFull, HoldContents}
 use Rattle.job_files.specs.{Files.FilesValue, Files.files_in, Files.files_named, Sizes.wad_contents}
@@ -23,13 +23,6 @@ memory_full P fault result tells is =
     let error_is = err_from_is_err_and result is in
     let fault_full : IfFull (itself error_is.0) P = rw (error_is.2, tells) tt in
     rw error_is.1 fault_full
-
--- memory ran out, which is no read that failed
-pub memory_causes : {B : Type 0} {before now : ℕ} (fault : Fault Refusal) (result : Result B (Fault Refusal)) → itself fault ≡ OutOfMemory → IsErrAnd result (λ e. e ≡ fault) → HasCauses itself before now result
-memory_causes {before} {now} fault result tells is =
-    let error_is = err_from_is_err_and result is in
-    let has_cause : HasCauseAt before now (itself error_is.0) = rw (error_is.2, tells) tt in
-    rw error_is.1 (record { err = has_cause })
 
 -- what no refusal of the lumps has stopped is audited
 unstopped : {A : Type 0} (expected : Result A AuditRefusal) (value : A) → stops_of_audit expected ≡ Ok value → expected ≡ Ok value

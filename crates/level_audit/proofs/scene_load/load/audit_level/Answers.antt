@@ -1,6 +1,6 @@
 use Rattle.std.proofs.Common.{◌≡◌, ◌<◌, ap, sym, subst, ◌∙◌, length, Ok, inl, inr, arith}
 use Rattle.level_audit.specs.Rules.{KeepsOrder, SceneValue, itself, level_job_value, lump_at, lump_bytes}
-use Rattle.art_rules.proofs.Laws.{all_stand_later, follows_then}
+use Rattle.art_rules.proofs.Laws.{all_stand_later, causes_stop, causes_then, follows_then}
 use Rattle.scene_rules.proofs.Laws.{order_then}
 use Rattle.texture_build.specs.Caches.{IsAtRest}
 use Rattle.texture_build.proofs.SizeLemmas.{sizes_empty}
@@ -12,7 +12,7 @@ use Rattle.level_audit.specs.scene_load.Fulls.{IsBaseWithin, IsFullOver}
 use Rattle.level_audit.specs.scene_load.Loads.{audited_value, loaded_lumps, loaded_sizes}
 use Rattle.level_audit.specs.scene_load.Orders.{loaded_items}
 use Rattle.level_audit.proofs.scene_load.ArtLemmas.{no_composites_first, no_composites_then}
-use Rattle.level_audit.proofs.scene_load.AuditedLemmas.{both_accepted, causes_after, layers_stopped, none_given, scene_kept, scene_stopped}
+use Rattle.level_audit.proofs.scene_load.AuditedLemmas.{both_accepted, layers_stopped, none_given, scene_kept, scene_stopped}
 use Rattle.level_audit.proofs.scene_load.FullLemmas.{audit_full, layers_full, same_full}
 use Rattle.level_audit.proofs.scene_load.MoreLemmas.{named_layers, sizes_layers}
 use Rattle.level_audit.proofs.{scene_load.ReadLemmas.items_all, scene_load.StayLemmas.call_order}
@@ -44,7 +44,7 @@ returns-in_err-scene g c =
           let keeps_order = KeepsOrder (loaded_items expected) c.args.cache.now c.audit.new.cache (g.S.Shelf.view c.args.shelf.now).taken (g.S.Shelf.view c.audit.new.shelf).taken in
           call_order (λ _. keeps_order) keeps_order keeps_order c.audit.result _ result (scene_tells.order contents (loaded_items expected) told (λ lump read. has_items lump (inl read)) order) scene_failed result_is_error (λ k. k);
       follows = scene_tells.follows;
-      causes = causes_after c.audit.result _ result (omega arith) scene_tells.causes scene_failed result_is_error;
+      causes = causes_stop c.audit.result _ result scene_tells.causes scene_failed result_is_error;
     }
 
 pub returns-in_err-weapons : goal.returns-in_err-weapons
@@ -77,7 +77,7 @@ returns-in_err-weapons g c =
           (order_after itself c.audit_layers.new.cache (g.S.Shelf.view c.audit_layers.new.shelf).taken c.audit_layers.result
           scene_in_order layers_in_order) weapons_failed result_is_error (λ k. k);
       follows = follows_then scene_tells.follows layers_tell.keeps.follows;
-      causes = causes_after c.audit_layers.result _ result scene_tells.follows.faults layers_tell.causes weapons_failed result_is_error;
+      causes = causes_then scene_tells.causes.ok (causes_stop c.audit_layers.result _ result layers_tell.causes weapons_failed result_is_error);
     }
 
 pub returns : goal.returns
@@ -120,5 +120,5 @@ returns g c =
           let scene_in_order = scene_tells.order contents (loaded_items expected) told (λ lump read. has_items lump (inl read)) order in
           order_then scene_in_order (weapons_tell.order (loaded_items expected) (λ lump asked. has_items lump (inr asked)) scene_in_order.order);
       follows = follows_then scene_tells.follows weapons_tell.keeps.follows;
-      causes = record { err = tt };
+      causes = record { ok = weapons_tell.causes.ok ∙ scene_tells.causes.ok; err = tt };
     }

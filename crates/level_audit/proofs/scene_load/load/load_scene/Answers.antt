@@ -1,14 +1,14 @@
 use Rattle.std.proofs.Common.{Bor, ℕ, List, Ok, map, refl, ◌∙◌, arith}
-use Rattle.art_rules.proofs.Laws.{all_stand_later, follows_then}
+use Rattle.art_rules.proofs.Laws.{all_stand_later, causes_memory, causes_stop, causes_then, follows_then}
 use Rattle.level_audit.specs.Rules.{IsInOrder, KeepsOrder, level_job_value}
 use Rattle.texture_build.specs.Calls.{HoldContents}
 use Rattle.job_files.specs.Files.{value_of}
 use Rattle.level_audit.specs.{scene_load.Fulls.IsFullLoad, scene_load.Loads.audited_value}
 use Rattle.level_audit.specs.scene_load.Orders.{loaded_items}
 use Rattle.level_audit.proofs.scene_load.ArtLemmas.{all_held}
-use Rattle.level_audit.proofs.scene_load.AuditedLemmas.{causes_after, none_given}
+use Rattle.level_audit.proofs.scene_load.AuditedLemmas.{none_given}
 use Rattle.level_audit.proofs.scene_load.FullLemmas.{files_full, load_full}
-use Rattle.level_audit.proofs.scene_load.LoadLemmas.{all_loaded, audit_stopped, audited_of, files_stopped, memory_agrees, memory_causes, memory_full, told_wads}
+use Rattle.level_audit.proofs.scene_load.LoadLemmas.{all_loaded, audit_stopped, audited_of, files_stopped, memory_agrees, memory_full, told_wads}
 use Rattle.level_audit.proofs.scene_load.OrderLemmas.{items_roomy, lumps_taken}
 use Rattle.level_audit.proofs.scene_load.StayLemmas.{call_order, files_order, memory_order}
 use Rattle.level_audit.proofs.scene_load.AboveLemmas.{audited_above}
@@ -30,7 +30,7 @@ returns-in_err-files g c =
           let read = files_tell.taken_of files contents holds named in
           files_order _ _ c.read_files.result _ result files_tell.full files_failed result_is_error (omega (arith, read));
       follows = files_tell.follows;
-      causes = causes_after c.read_files.result _ result (omega arith) files_tell.causes files_failed result_is_error;
+      causes = causes_stop c.read_files.result _ result files_tell.causes files_failed result_is_error;
     }
 
 pub returns-in_err-cache : goal.returns-in_err-cache
@@ -50,7 +50,7 @@ returns-in_err-cache g c =
           let read = files_tell.taken_of files contents holds named in
           memory_order _ _ _ result memory result_is_error (omega (arith, read));
       follows = files_tell.follows;
-      causes = memory_causes _ result memory result_is_error;
+      causes = causes_memory _ result memory result_is_error files_tell.causes.ok;
     }
 
 pub returns-in_err-scene : goal.returns-in_err-scene
@@ -81,7 +81,7 @@ returns-in_err-scene g c =
           (audit_tells.order _ expected wads_are_held (audited_of level _ files _ expected are loads) cache_ordered) scene_failed result_is_error
           (λ k. omega (arith, read, lumps_taken expected k));
       follows = follows_then files_tell.follows audit_tells.follows;
-      causes = causes_after c.map_err.result _ result files_tell.follows.faults audit_tells.causes scene_failed result_is_error;
+      causes = causes_then files_tell.causes.ok (causes_stop c.map_err.result _ result audit_tells.causes scene_failed result_is_error);
     }
 
 pub returns : goal.returns
@@ -123,5 +123,5 @@ returns g c =
           let keeps = audit_tells.order _ expected wads_are_held (audited_of level _ files _ expected files_are loads) cache_ordered in
           record { order = keeps.order; taken = omega (arith, keeps.taken, read) };
       follows = follows_then files_tell.follows audit_tells.follows;
-      causes = record { err = tt };
+      causes = record { ok = audit_tells.causes.ok ∙ files_tell.causes.ok; err = tt };
     }
