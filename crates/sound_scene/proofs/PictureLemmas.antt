@@ -1,5 +1,5 @@
 -- Lists of pictures with the same members: a scene needs the same lumps with each of them.
-use Rattle.art_rules.proofs.Common.{any-contains, ap, arith, Contains, Contains-append_cases, Contains-append_left, Contains-append_right, inl, inr, length, List, list_any, map-append, nat_tests, refl, same_from_decides, subst, sym, true, ℕ, ◌++◌, ◌==◌, ◌||◌, ◌↔◌, ◌∙◌, ◌≡◌, ◌⊎◌}
+use Rattle.art_rules.proofs.Common.{any-contains, ap, Contains, Contains-append_cases, Contains-append_left, Contains-append_right, inl, inr, length, List, list_any, map-append, refl, same_from_decides, subst, sym, ℕ, ◌++◌, ◌==◌, ◌||◌, ◌↔◌, ◌∙◌, ◌≡◌, ◌⊎◌}
 use Rattle.texture_build.proofs.MarkLemmas.{filter_same}
 use Rattle.sound_scene.specs.Rules.{Frame, Lump, LumpNo, SceneValue, ZoneSizes, art_of, book_lumps, enough, has_flat, is_list, is_map_lump, is_needed, is_patch_of_any, needed_lumps, roomy, sizes_of, zone_sizes}
 use Rattle.sound_scene.specs.{Views.lump_numbers, Sound.SoundValue, Sound.art_with, Sound.with_book}
