@@ -1,6 +1,6 @@
 -- For which block a zone is full while a scene is drawn, and that one that is enough for the scene never is.
 use Rattle.picture_rules.proofs.Common.{[], All, All-contains, All-contains_itself, All-filter, All-head, ap, append-nil, arith, Bool, cases_lt, cond, Contains, Contains-get_or, eq-eqb, eq-false_positive, Err, false, false≢true, filter, get_or_past, IfErr, IfSome, inl, inr, IsSome, length, List, list_any, list_any-append, nat_lt, nat_tests, None, Ok, Option, range_with_len, refl, Result, slice_index_or, Some, subst, suc, sym, true, unwrap_or, zero, ℕ, ◌*◌, ◌++◌, ◌+◌, ◌<◌, ◌==◌, ◌||◌, ◌∙◌, ◌∷◌, ◌≡◌, ◌≢◌, ◌≤◌, ◌⊎◌, ℤ}
-use Rattle.frame_core.specs.Rules.{ColumnLookup, Empty, FaultsRose, HasCauseAt, Heap, Lump, Owner, PlacedPatch, PreparedTexture, SceneArt, SceneValue, ShelfView, art_of, block_or_none, block_size, book_lumps, column_lookup, composed_columns, composed_count, composite_block, composite_place, composite_size, enough, has_flat, is_composed, is_needed, is_patch_of, is_patch_of_any, lookup_of, lump_at, lump_block, lump_bytes, patches_in, stands_in}
+use Rattle.frame_core.specs.Rules.{ColumnLookup, Empty, Heap, Lump, Owner, PlacedPatch, PreparedTexture, SceneArt, SceneValue, ShelfView, art_of, block_or_none, block_size, book_lumps, column_lookup, composed_columns, composed_count, composite_block, composite_place, composite_size, enough, has_flat, is_composed, is_needed, is_patch_of, is_patch_of_any, lookup_of, lump_at, lump_block, lump_bytes, patches_in, stands_in}
 use Rattle.texture_build.specs.DirectoryView.{DirectoryView}
 use Rattle.texture_build.specs.Caches.{IsAtRest, composite_owner, lump_owner}
 use Rattle.texture_build.specs.Calls.{IfFull, IsFullFor}
@@ -222,11 +222,11 @@ module _ (contents : List (List ℕ)) (dir : DirectoryView) (scene : SceneValue)
   view_full (inl texture) = texture_full texture
   view_full (inr lump) = lump_full lump
 
--- a fault that is no full zone, where no read failed, tells a limit
-complete_at : (before now : ℕ) (fault : ViewFault) → IfFull (view_fault fault) (λ wanted widest. ⊥) → HasCauseAt before now (view_fault fault) → (FaultsRose before now → ⊥) → IsSome (limit_of_view fault)
-complete_at before now (Limit kind number) full cause none = refl
-complete_at before now (ZoneFull wanted widest) full cause none = absurd full
-complete_at before now ReadFault full cause none = absurd (none cause)
+-- a fault that is no full zone and no read that failed tells a limit
+complete_at : (fault : ViewFault) → IfFull (view_fault fault) (λ wanted widest. ⊥) → fault ≢ ReadFault → IsSome (limit_of_view fault)
+complete_at (Limit kind number) full other = refl
+complete_at (ZoneFull wanted widest) full other = absurd full
+complete_at ReadFault full other = absurd (other refl)
 
 -- no gap is as wide as what was wanted
 full_narrow : {among : ℕ → ℤ → Type 0} {lumps : ℕ → Type 0} {dir : DirectoryView} {textures : TexturesView} {z : Heap} (wanted widest : ℕ) → IsFullForTexture among dir.lumps textures z wanted widest ⊎ IsFullFor lumps dir z wanted widest → widest < wanted
@@ -251,7 +251,7 @@ module _ {v : ShelfView} {dir : DirectoryView} {scene : SceneValue} {x : Heap} (
   enough-view (Err fault) draws = full_at (view_fault fault) never_full draws.full
 
   -- where no read failed either, a limit ends it
-  pub complete-view : {A : Type 0} {w : ShelfView} {y : Heap} (result : Result A ViewFault) → DrawsWith view_fault (IsViewTexture scene) (IsViewLump dir.lumps scene) v w dir (textures_view scene) x y result → (FaultsRose v.faults w.faults → ⊥) →
-      IfErr result (λ fault. IsSome (limit_of_view fault))
-  complete-view (Ok answer) draws none = tt
-  complete-view {w = w} (Err fault) draws none = complete_at v.faults w.faults fault (enough-view (Err fault) draws) draws.causes.err none
+  pub complete-view : {A : Type 0} {w : ShelfView} {y : Heap} (result : Result A ViewFault) → DrawsWith view_fault (IsViewTexture scene) (IsViewLump dir.lumps scene) v w dir (textures_view scene) x y result →
+      IfErr result (λ fault. fault ≢ ReadFault → IsSome (limit_of_view fault))
+  complete-view (Ok answer) draws = tt
+  complete-view (Err fault) draws = complete_at fault (enough-view (Err fault) draws)

@@ -1,10 +1,12 @@
 -- A brush over what is lent takes what a view shows, and paints the view with it.
 use Rattle.picture_rules.proofs.Common.{[], All, All-contains, All-from_recursion, AllByRecursion, AllPass, ap, append-nil, arith, Bor, Contains, Contains-append_cases, Contains-append_left, Err, err_from_is_err_and, false, IfErr, IfSome, inl, inr, IsErr, IsErrAnd, length, List, map, None, Ok, OnOk, Option, option_map, refl, Result, Some, subst, sym, true, ℕ, ℤ, ◌++◌, ◌∙◌, ◌∷◌, ◌<◌, ◌≡◌}
-use Rattle.frame_core.specs.Rules.{AreNoted, Dot, Event, FragmentNote, IsSound, LeafFragment, LimitKind, OverLimit, Painter, Scene, SceneValue, SpriteEntry, ViewValue, Wall, draw_order, drawsegs, fragment_facts, fragment_wall, lump_bytes, masked_dots, openings_list, planes_dots, surface_at, view_drawsegs, view_entries, view_events, view_notes, view_paints, view_planes, view_steps, wall_of, walls_dots, walls_of}
+use Rattle.texture_build.specs.Views.{TexturesView}
+use Rattle.frame_core.specs.Rules.{Heap, IsWithinFrame, ShelfView, ViewShape, AreNoted, Dot, Event, FragmentNote, IsSound, LeafFragment, LimitKind, OverLimit, Painter, Scene, SceneValue, SpriteEntry, ViewValue, Wall, draw_order, drawsegs, fragment_facts, fragment_wall, lump_bytes, masked_dots, openings_list, planes_dots, surface_at, view_drawsegs, view_entries, view_events, view_notes, view_paints, view_planes, view_steps, wall_of, walls_dots, walls_of}
 use Rattle.scene_rules.proofs.Laws.{order_none}
+use Rattle.pixel_strips.specs.Canvases.{CanvasView, placed_at}
 use Rattle.texture_build.specs.{CacheFault.CacheFault, Caches.cache_fault, Draws.DrawsWith, TexNo.TexNo}
 use Rattle.texture_build.specs.CacheFault.TheVariants as cache
-use Rattle.texture_build.specs.Paints.{PaintState, PaintTools, Paints, painted_art}
+use Rattle.texture_build.specs.Paints.{PaintState, PaintTools, Paints, paint_state, paint_tools, painted_art}
 use Rattle.texture_build.proofs.DrawLemmas.{IsMapped, keeps_art-none}
 use Rattle.texture_build.proofs.PaintLemmas.{paints-mapped, paints-missed, paints-same, paints-stop, paints-then_stop, paints-wider}
 use Rattle.vissprites.specs.Bounds.{has_lump_below, lies_within}
@@ -41,7 +43,7 @@ use Rattle.frame_core.specs.Walked.{IsEventIn, IsPlaneIn}
 use Rattle.frame_core.specs.Painters.{HasWalkedView, IsPlacedIn, TakesWalls, limits_in}
 use Rattle.frame_core.specs.Parts.{AreNotesListed, AsksView, TakesView}
 use Rattle.frame_core.specs.ViewStrips.{mask_lists, no_bytes, scene_entries, scene_noted, scene_planes, scene_sky, scene_walls, seen_walls, view_strips}
-use Rattle.frame_core.proofs.{CountLemmas.few-notes, DrawsegLemmas.masked_dots-noted, PaintLemmas.cache_above, ViewLemmas.view-parts}
+use Rattle.frame_core.proofs.{CountLemmas.few-notes, DrawsegLemmas.masked_dots-noted, PaintLemmas.cache_above, ViewLemmas.placed-frame, ViewLemmas.view-parts}
 use Rattle.frame_core.proofs.FloorLemmas.{IsSkyOf, flat_lump, held_sky, planes_are, planes_can, sky_can, sky_prepared}
 use Rattle.frame_core.proofs.FragmentLemmas.{can_draw-facts, facts-ready, ready-number, walls_same}
 use Rattle.frame_core.proofs.ListedLemmas.{drawsegs_there, middle_prepared, notes_listed}
@@ -62,6 +64,15 @@ pub record CanPaintView (s : ViewScene) (st : PaintState) : Type 0 where
   pub can : CanDrawView s.dir.lumps s.scene st.cache
   pub placed : IsPlacedIn s.view st.canvas
   pub sound : IsSound s.scene.base.level
+
+-- so it is where the canvas was placed for the view
+pub can-painted : (s : ViewScene) {cache : Heap} (shape : ViewShape) (shelf : ShelfView) (old now : CanvasView) → CanDrawView s.dir.lumps s.scene cache → shape ≡ s.view.shape → IsWithinFrame shape → now ≡ placed_at shape.left shape.top old → IsSound s.scene.base.level →
+    CanPaintView s (paint_state shelf cache now)
+can-painted s shape shelf old now can same frame place sound = record { can = can; placed = placed-frame s.view shape old now same frame place; sound = sound }
+
+-- the textures and the colormap that a scene lends are its own
+pub tools-are : (s : ViewScene) {textures : TexturesView} {colormap : ℕ} → textures ≡ textures_view s.scene → colormap ≡ s.scene.base.colormap → paint_tools s.dir textures colormap ≡ view_tools s
+tools-are s {colormap = colormap} of_textures of_colormap = ap (λ (t : TexturesView). paint_tools s.dir t colormap) of_textures ∙ ap (paint_tools s.dir (textures_view s.scene)) of_colormap
 
 sky_of : (sky : Option ℕ) → option_map (λ (tex : TexNo). tex.0) (option_map (λ n. let tex : TexNo = record { 0 = n } in tex) sky) ≡ sky
 sky_of None = refl
@@ -247,7 +258,7 @@ draws_limit : {among : ℕ → ℤ → Type 0} {pictures : ℕ → Type 0} (s : 
     DrawsWith {A = Unit {0}} view_fault among pictures st.shelf st.shelf s.dir (textures_view s.scene) st.cache st.cache (Err (Limit kind count))
 draws_limit s st kind count = record {
   keeps = keeps_art-none st.shelf s.dir (textures_view s.scene) st.cache;
-  causes = record { err = tt };
+  causes = record { ok = tt; err = refl };
   steady = λ contents stand within steady. tt;
   full = tt;
   order = λ items asked all k. order_none items st.cache st.shelf.taken k;

@@ -1,6 +1,6 @@
 -- Laws of a whole view: its three parts in order, where its dots lie, what ends it, and the frame that it leaves.
 use Rattle.picture_rules.proofs.Common.{All, AllPass, ap, arith, Err, get_or, IfErr, IfSome, IsErrAnd, length, length-replicate, List, None, Ok, OnOk, Option, refl, replicate, Result, Some, subst, suc, sym, zero, ℕ, ◌++◌, ◌∙◌, ◌≡◌, ◌≤◌, ℤ}
-use Rattle.frame_core.specs.Rules.{AreInView, Dot, FRAME_CELLS, FRAME_HEIGHT, Fault, FaultsRose, FitsFrame, Heap, IsWithinFrame, Limits, OverLimit, Painter, Plane, Scene, SceneValue, ShelfView, SpriteEntry, ViewShape, ViewValue, draw_order, masked_dots, paints_by, paints_of, picture, planes_dots, planes_of, view_drawsegs, view_entries, view_events, view_over, view_paints, view_planes, view_steps, walls_dots, walls_of}
+use Rattle.frame_core.specs.Rules.{AreInView, Dot, FRAME_CELLS, FRAME_HEIGHT, Fault, FitsFrame, Heap, IsWithinFrame, Limits, OverLimit, Painter, Plane, Scene, SceneValue, ShelfView, SpriteEntry, ViewShape, ViewValue, draw_order, masked_dots, paints_by, paints_of, picture, planes_dots, planes_of, view_drawsegs, view_entries, view_events, view_over, view_paints, view_planes, view_steps, walls_dots, walls_of}
 use Rattle.pixel_strips.specs.Canvases.{CanvasView, marked_by_colour, placed_at}
 use Rattle.pixel_strips.specs.Dotted.{HasDots}
 use Rattle.texture_build.specs.{DirectoryView.DirectoryView, Draws.HoldsArt, Views.TexturesView}
@@ -115,9 +115,6 @@ pictured v scene old now (Err e) frame cleared inside dots = tt
 pub holds-back : {S : Type 0} {t : TexturesView} {dir : DirectoryView} {contents : List (List ℕ)} {colormap count : ℕ} (view : S → ShelfView) (back shelf : S) (z cache : Heap) → back ≡ shelf → z ≡ cache → HoldsArt (view shelf) dir t contents colormap count cache → HoldsArt (view back) dir t contents colormap count z
 holds-back {t = t} {dir} {contents} {colormap} {count} view back shelf z cache e f h =
     subst (λ (x : Heap). HoldsArt (view back) dir t contents colormap count x) (sym f) (subst (λ s. HoldsArt (view s) dir t contents colormap count cache) (sym e) h)
-
-pub steady-back : {S : Type 0} (view : S → ShelfView) (old back shelf : S) → back ≡ shelf → (FaultsRose (view old).faults (view back).faults → ⊥) → FaultsRose (view old).faults (view shelf).faults → ⊥
-steady-back view old back shelf e none = subst (λ s. FaultsRose (view old).faults (view s).faults → ⊥) e none
 
 -- and of a canvas, of the same view by another word
 pub paints-back : {S C A : Type 0} {mark : Painter → ℕ → ℕ} {first : ShelfView} {heap : Heap} {result : Result A ViewFault} (shelf : S → ShelfView) (canvas : C → CanvasView) (old : CanvasView) (v w : ViewValue) (s : SceneValue) (dir : DirectoryView)

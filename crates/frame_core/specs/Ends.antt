@@ -1,9 +1,10 @@
 -- How a call that draws a view ends: within the limits or past one, and in a zone that is large enough for the scene.
-use Rattle.std.specs.Prelude.{◌≡◌, ◌≤◌, ℕ, List, None, Some, IfErr, IfSome, IsSome, OnOk, Result}
-use Rattle.frame_core.specs.Rules.{FaultsRose, Heap, Limits, SceneValue, ShelfView, ViewValue, art_of, enough, lump_at, view_over}
+use Rattle.std.specs.Prelude.{◌≡◌, ◌≢◌, ◌≤◌, ℕ, List, None, Some, IfErr, IfSome, IsSome, OnOk, Result}
+use Rattle.frame_core.specs.Rules.{Heap, Limits, SceneValue, ShelfView, ViewValue, art_of, enough, lump_at, view_over}
 use Rattle.texture_build.specs.{Calls.IfFull, DirectoryView.DirectoryView, Draws.HoldsArt}
 use Rattle.sound_scene.specs.{Sound.textures_view, Pictures.scene_of}
 use Rattle.frame_core.specs.declared.fault.ViewFault.{ViewFault}
+use Rattle.frame_core.specs.declared.fault.ViewFault.TheVariants.{ReadFault}
 use Rattle.frame_core.specs.Faults.{limit_of_view, view_fault}
 
 -- Ok comes only where no count of the view passes its limit
@@ -31,15 +32,14 @@ EndsNotFull dir scene shelf cache result = (contents : List (List ℕ)) (count :
     enough dir.lumps (art_of scene) ≤ cache.size →
     IfErr result (λ fault. IfFull (view_fault fault) (λ wanted widest. ⊥))
 
--- in such a zone, where the shelf's count of faults did not rise, a fault tells a limit
-abbrev pub EndsComplete : {A : Type 0} → DirectoryView → SceneValue → ShelfView → ShelfView →
-    Heap → Result A ViewFault → Type 0
-EndsComplete dir scene shelf after cache result = (contents : List (List ℕ)) (count : ℕ) →
+-- in such a zone a fault tells a limit, or that a read failed
+abbrev pub EndsComplete : {A : Type 0} → DirectoryView → SceneValue → ShelfView → Heap →
+    Result A ViewFault → Type 0
+EndsComplete dir scene shelf cache result = (contents : List (List ℕ)) (count : ℕ) →
     HoldsScene dir scene shelf cache contents count →
     (lump_at dir.lumps scene.base.colormap).size ≡ count →
     enough dir.lumps (art_of scene) ≤ cache.size →
-    (FaultsRose shelf.faults after.faults → ⊥) →
-    IfErr result (λ fault. IsSome (limit_of_view fault))
+    IfErr result (λ fault. fault ≢ ReadFault → IsSome (limit_of_view fault))
 
 -- a cache that holds the scene's files holds them after the call too
 abbrev pub HoldsAgain : DirectoryView → SceneValue → ShelfView → ShelfView → Heap → Heap → Type 0

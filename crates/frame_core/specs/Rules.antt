@@ -1,5 +1,5 @@
 -- The words of the rules below that this crate cites, by the page that each comes from.
-pub use Rattle.art_rules.specs.Words.{Fault, FaultsRose, HasCauseAt, Lump, PreparedTexture, ShelfView, Texture, TextureLists, and_then, fault_above, lump_at, texture_at}
+pub use Rattle.art_rules.specs.Words.{Fault, Lump, PreparedTexture, ShelfView, Texture, TextureLists, and_then, fault_above, lump_at, texture_at}
 unfoldable pub use Rattle.art_rules.specs.Words.{book_lumps, column_lookup, composed_columns, composed_count, composite_place, composite_size, half_at, is_composed, is_frame, is_patch_of, is_patch_of_any, is_wrong, list_count, lookup_of, lump_bytes, patches_in, picked, shape_lumps, signed_half_at, stands_in, texture_in, texture_number, texture_of, texture_place, wrong_record}
 pub use Rattle.art_rules.specs.declared.{ColumnLookup.ColumnLookup, ColumnLookup.TheVariants.Empty}
 pub use Rattle.art_rules.specs.declared.PlacedPatch.{PlacedPatch}

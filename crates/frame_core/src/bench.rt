@@ -191,7 +191,8 @@ impl Bench {
             (view_steps view.now (scene_of bytes scene.now.scene)
             (events ++ FragmentEvent seg first last ∷ [])) }
         ensures asks { (limits : Limits) (events : List Event) →
-            ((bytes : ℕ → List ℕ) → HasWalked view.now bytes scene.now.scene limits events self.old) →
+            ((bytes : ℕ → List ℕ) →
+            HasWalked view.now bytes scene.now.scene limits events self.old) →
             ReceivesUnlessOver B.takes B.stands B.stopped brush.old brush.new
             (event_strips view.now scene.now.scene events (FragmentEvent seg first last)) result }
         ensures still { OnOk result (StillTakes B.takes brush.old brush.new) }

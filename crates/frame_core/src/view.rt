@@ -34,11 +34,11 @@ use view_frame::{Tables, View};
 /// Errors: `Limit` only where a count of the view passes its limit, with the first count that does;
 /// where one does, never Ok. `ZoneFull` only if no gap of the zone held the block of a lump or a
 /// texture of the scene, and never in a zone that is large enough for the scene (`enough`);
-/// `ReadFault` only if the shelf's count of faults rose. In such a zone, where it did not rise, the
-/// answer is Ok or a limit (`complete`). After an error the frame's bytes are not told; after any
-/// answer the next call finds what a first call finds: a cache that was at rest and held the bytes
-/// of its files is at rest and holds them (`again`). The frame is placed where the view lies in it
-/// (`left`, `top`, `window`), so that a weapon can be painted on it (`Workshop::canvas`).
+/// `ReadFault` only if the shelf's count of faults rose, and it rises nowhere else. In such a zone
+/// any other answer is Ok or a limit (`complete`). After an error the frame's bytes are not told;
+/// after any answer the next call finds what a first call finds: a cache that was at rest and held
+/// the bytes of its files is at rest and holds them (`again`). The frame is placed where the view
+/// lies in it (`left`, `top`, `window`), so that a weapon can be painted on it (`Workshop::canvas`).
 ///
 /// The original: `R_RenderPlayerView`, r_main.c, and `R_ExecuteSetViewSize` for the place.
 pub fn draw_view<S: Shelf>(
@@ -67,8 +67,7 @@ pub fn draw_view<S: Shelf>(
         (IsViewLump dir.now.lumps scene.now.scene) (S.view shelf.old) (S.view shelf.new)
         dir.now (textures_view scene.now.scene) cache.old cache.new result }
     ensures enough { EndsNotFull dir.now scene.now.scene (S.view shelf.old) cache.old result }
-    ensures complete { EndsComplete dir.now scene.now.scene (S.view shelf.old) (S.view shelf.new)
-        cache.old result }
+    ensures complete { EndsComplete dir.now scene.now.scene (S.view shelf.old) cache.old result }
     ensures again { HoldsAgain dir.now scene.now.scene (S.view shelf.old) (S.view shelf.new)
         cache.old cache.new }
     ensures left { shop.new.frame.left ≡ (view_of tables.now eye).shape.left }
@@ -118,8 +117,7 @@ pub fn draw_view_on<'a, S: Shelf, C: Canvas>(
         (view_paints (view_of tables.now eye) (scene_of bytes scene.now.scene))) }
     ensures window { IsWithinFrame (view_of tables.now eye).shape }
     ensures enough { EndsNotFull dir.now scene.now.scene (S.view shelf.old) cache.old result }
-    ensures complete { EndsComplete dir.now scene.now.scene (S.view shelf.old) (S.view shelf.new)
-        cache.old result }
+    ensures complete { EndsComplete dir.now scene.now.scene (S.view shelf.old) cache.old result }
     ensures again { HoldsAgain dir.now scene.now.scene (S.view shelf.old) (S.view shelf.new)
         cache.old cache.new }
     ensures limits { shop.new.limits ≡ shop.old.limits }

@@ -10,19 +10,19 @@ use Rattle.frame_core.proofs.masks.paint_masks.Goals as goal
 
 pub paint_masked-requires-clause-ready : goal.paint_masked-requires-clause-ready
 paint_masked-requires-clause-ready g c =
-    let v = c.args.view.now in
-    let s = c.args.scene.now.scene in
-    let b = c.args.bench.now in
-    let same = parts-same s b c.level-level.ensures c.textures.ensures refl c.segs.ensures.value c.sides.ensures.value c.sectors.ensures.value c.middles.ensures
+    let view_now = c.args.view.now in
+    let scene_now = c.args.scene.now.scene in
+    let bench_now = c.args.bench.now in
+    let same = parts-same scene_now bench_now c.level-level.ensures c.textures.ensures refl c.segs.ensures.value c.sides.ensures.value c.sectors.ensures.value c.middles.ensures
     c.openings-openings.ensures.value c.notes.ensures.value in
     let frame = c.shape-shape.ensures.frame in
     let shape = c.shape-shape.ensures.value in
-    let width : v.shape.width ≤ FRAME_WIDTH = subst (λ (h : ViewShape). h.width ≤ FRAME_WIDTH) shape (let w = frame.width in omega arith) in
-    let height : v.shape.height ≤ FRAME_HEIGHT = subst (λ (h : ViewShape). h.height ≤ FRAME_HEIGHT) shape (let h = frame.height in omega arith) in
+    let width : view_now.shape.width ≤ FRAME_WIDTH = subst (λ (h : ViewShape). h.width ≤ FRAME_WIDTH) shape (let columns = frame.width in omega arith) in
+    let height : view_now.shape.height ≤ FRAME_HEIGHT = subst (λ (h : ViewShape). h.height ≤ FRAME_HEIGHT) shape (let rows = frame.height in omega arith) in
     record {
       width = width;
-      noted = parts-noted v s b same (c.notes.ensures.noted v _ _ width height (walls-built v s b c.requires.walked));
-      listed = parts-in v s b same c.requires.walked c.requires.listed;
+      noted = parts-noted view_now scene_now bench_now same (c.notes.ensures.noted view_now _ _ width height (walls-built view_now scene_now bench_now c.requires.walked));
+      listed = parts-in view_now scene_now bench_now same c.requires.walked c.requires.listed;
       room = omega arith;
     }
 
@@ -31,20 +31,20 @@ paint_masked-requires-clause-columns g c = sprites-within c.args.view.now c.args
 
 pub paint_masked-requires-clause-takes : goal.paint_masked-requires-clause-takes
 paint_masked-requires-clause-takes g c =
-    let v = c.args.view.now in
-    let s = c.args.scene.now.scene in
-    let b = c.args.bench.now in
-    let same = parts-same s b c.level-level.ensures c.textures.ensures refl c.segs.ensures.value c.sides.ensures.value c.sectors.ensures.value c.middles.ensures
+    let view_now = c.args.view.now in
+    let scene_now = c.args.scene.now.scene in
+    let bench_now = c.args.bench.now in
+    let same = parts-same scene_now bench_now c.level-level.ensures c.textures.ensures refl c.segs.ensures.value c.sides.ensures.value c.sectors.ensures.value c.middles.ensures
     c.openings-openings.ensures.value c.notes.ensures.value in
-    subst (λ (ds : List Drawseg). TakesMasked g.B.Brush.takes c.args.brush.now v ds b.sprites) (sym (masks-noted v s b same c.requires.walked))
-    (subst (λ (es : List SpriteEntry). TakesMasked g.B.Brush.takes c.args.brush.now v (scene_noted v s) es) (sym (entries-same v s b c.requires.walked)) c.requires.takes)
+    subst (λ (ds : List Drawseg). TakesMasked g.B.Brush.takes c.args.brush.now view_now ds bench_now.sprites) (sym (masks-noted view_now scene_now bench_now same c.requires.walked))
+    (subst (λ (es : List SpriteEntry). TakesMasked g.B.Brush.takes c.args.brush.now view_now (scene_noted view_now scene_now) es) (sym (entries-same view_now scene_now bench_now c.requires.walked)) c.requires.takes)
 
 pub returns-clause-asks : goal.returns-clause-asks
 returns-clause-asks g c =
-    let v = c.args.view.now in
-    let s = c.args.scene.now.scene in
-    let b = c.args.bench.now in
-    let same = parts-same s b c.level-level.ensures c.textures.ensures refl c.segs.ensures.value c.sides.ensures.value c.sectors.ensures.value c.middles.ensures
+    let view_now = c.args.view.now in
+    let scene_now = c.args.scene.now.scene in
+    let bench_now = c.args.bench.now in
+    let same = parts-same scene_now bench_now c.level-level.ensures c.textures.ensures refl c.segs.ensures.value c.sides.ensures.value c.sectors.ensures.value c.middles.ensures
     c.openings-openings.ensures.value c.notes.ensures.value in
     subst (λ (strips : List Strip). Receives g.B.Brush.takes g.B.Brush.stands g.B.Brush.stopped c.args.brush.now c.paint_masked.new.brush strips c.paint_masked.result)
-    (masks-same v s b same c.requires.walked) c.paint_masked.ensures.asks
+    (masks-same view_now scene_now bench_now same c.requires.walked) c.paint_masked.ensures.asks

@@ -2,10 +2,8 @@
 use Rattle.picture_rules.proofs.Common.{ap, None, subst, sym, ◌∙◌, ◌≡◌}
 use Rattle.frame_core.specs.Rules.{IsWithinFrame, Limits, view_over}
 use Rattle.brush.specs.Works.{BrushNames, brush_now}
-use Rattle.texture_build.specs.Paints.{paint_state, paint_tools}
-use Rattle.texture_build.specs.Views.{TexturesView}
+use Rattle.texture_build.specs.Paints.{paint_state}
 use Rattle.texture_build.proofs.DrawLemmas.{mapped-err, mapped-ok}
-use Rattle.sound_scene.specs.Sound.{textures_view}
 use Rattle.sound_scene.specs.Pictures.{scene_of}
 use Rattle.std.specs.Prelude.{Some}
 use Rattle.frame_core.specs.{Faults.from_stop}
@@ -13,8 +11,8 @@ use Rattle.frame_core.specs.Views.{tools_scene}
 use Rattle.frame_core.specs.Painters.{limits_in}
 use Rattle.frame_core.proofs.{CanLemmas.can_count-drawable, CountLemmas.within-walked}
 use Rattle.frame_core.proofs.PartLemmas.{view-by, view-value}
-use Rattle.frame_core.proofs.PaintedLemmas.{CanPaintView, told-stopped, view-listed, view-names, view-painted, view-taken}
-use Rattle.frame_core.proofs.ViewLemmas.{in_view-walked, paints-placed, placed-frame}
+use Rattle.frame_core.proofs.PaintedLemmas.{can-painted, told-stopped, tools-are, view-listed, view-names, view-painted, view-taken}
+use Rattle.frame_core.proofs.ViewLemmas.{in_view-walked, paints-placed}
 use Rattle.frame_core.proofs.parts.draw_parts.Goals as goal
 use Rattle.frame_core.proofs.parts.draw_parts.Goals.{After-paint_view}
 
@@ -28,24 +26,16 @@ pub paint_view-requires-clause-listed : goal.paint_view-requires-clause-listed
 paint_view-requires-clause-listed g c = λ b walked.
     let tools_now = c.args.tools.now in
     let state = paint_state (g.S.Shelf.view tools_now.shelf.now) tools_now.cache.now (g.C.Canvas.view c.place.new.self) in
-    let can : CanPaintView (tools_scene tools_now) state = record {
-      can = c.requires.drawable;
-      placed = placed-frame tools_now.view.now c.shape-shape.result (g.C.Canvas.view tools_now.canvas.now) (g.C.Canvas.view c.place.new.self) c.shape-shape.ensures.value c.shape-shape.ensures.frame c.place.ensures;
-      sound = c.start.ensures.sound;
-    } in
+    let can = can-painted (tools_scene tools_now) c.shape-shape.result (g.S.Shelf.view tools_now.shelf.now) (g.C.Canvas.view tools_now.canvas.now) (g.C.Canvas.view c.place.new.self) c.requires.drawable c.shape-shape.ensures.value c.shape-shape.ensures.frame c.place.ensures c.start.ensures.sound in
     view-listed (tools_scene tools_now) state (record { cache = 0; shelf = 0; canvas = 0 }) can b walked
 
 pub paint_view-requires-clause-takes : goal.paint_view-requires-clause-takes
 paint_view-requires-clause-takes g c =
     let tools_now = c.args.tools.now in
     let state = paint_state (g.S.Shelf.view tools_now.shelf.now) tools_now.cache.now (g.C.Canvas.view c.place.new.self) in
-    let can : CanPaintView (tools_scene tools_now) state = record {
-      can = c.requires.drawable;
-      placed = placed-frame tools_now.view.now c.shape-shape.result (g.C.Canvas.view tools_now.canvas.now) (g.C.Canvas.view c.place.new.self) c.shape-shape.ensures.value c.shape-shape.ensures.frame c.place.ensures;
-      sound = c.start.ensures.sound;
-    } in
+    let can = can-painted (tools_scene tools_now) c.shape-shape.result (g.S.Shelf.view tools_now.shelf.now) (g.C.Canvas.view tools_now.canvas.now) (g.C.Canvas.view c.place.new.self) c.requires.drawable c.shape-shape.ensures.value c.shape-shape.ensures.frame c.place.ensures c.start.ensures.sound in
     view-by (brush_now g.S.Shelf.view g.C.Canvas.view) _ (view-taken (tools_scene tools_now) state _ _
-    (ap (λ (textures : TexturesView). paint_tools tools_now.dir.now textures c.colormap.result.0) c.textures.ensures ∙ ap (paint_tools tools_now.dir.now (textures_view tools_now.scene.now.scene)) c.colormap.ensures) can)
+    (tools-are (tools_scene tools_now) c.textures.ensures c.colormap.ensures) can)
 
 pub shape_of-tools : goal.shape_of-tools
 shape_of-tools g c =
@@ -61,43 +51,33 @@ shape_of-tools-3 g c =
 
 pub returns-in_err-paint_view-clause-over : goal.returns-in_err-paint_view-clause-over
 returns-in_err-paint_view-clause-over g c = λ bytes.
-    let v = c.args.tools.now.view.now in
+    let view_now = c.args.tools.now.view.now in
     let scene = scene_of bytes c.args.tools.now.scene.now.scene in
-    told-stopped (λ over. view_over v scene (limits_in c.args.bench.now) ≡ Some over) c.in_err-paint_view.field-0.0 c.from_residual.result c.from_residual.ensures.1
+    told-stopped (λ over. view_over view_now scene (limits_in c.args.bench.now) ≡ Some over) c.in_err-paint_view.field-0.0 c.from_residual.result c.from_residual.ensures.1
     (rw c.start.ensures.limits at (c.in_err-paint_view.ensures.over bytes))
 
 pub returns-in_err-paint_view-clause-paints : goal.returns-in_err-paint_view-clause-paints
 returns-in_err-paint_view-clause-paints g c =
     let tools_now = c.args.tools.now in
-    let can : CanPaintView (tools_scene tools_now) (paint_state (g.S.Shelf.view tools_now.shelf.now) tools_now.cache.now (g.C.Canvas.view c.place.new.self)) = record {
-      can = c.requires.drawable;
-      placed = placed-frame tools_now.view.now c.shape-shape.result (g.C.Canvas.view tools_now.canvas.now) (g.C.Canvas.view c.place.new.self) c.shape-shape.ensures.value c.shape-shape.ensures.frame c.place.ensures;
-      sound = c.start.ensures.sound;
-    } in
-    let tools = ap (λ (textures : TexturesView). paint_tools tools_now.dir.now textures c.colormap.result.0) c.textures.ensures ∙ ap (paint_tools tools_now.dir.now (textures_view tools_now.scene.now.scene)) c.colormap.ensures in
+    let can = can-painted (tools_scene tools_now) c.shape-shape.result (g.S.Shelf.view tools_now.shelf.now) (g.C.Canvas.view tools_now.canvas.now) (g.C.Canvas.view c.place.new.self) c.requires.drawable c.shape-shape.ensures.value c.shape-shape.ensures.frame c.place.ensures c.start.ensures.sound in
     paints-placed tools_now.view.now c.shape-shape.result (g.C.Canvas.view tools_now.canvas.now) (g.C.Canvas.view c.place.new.self) c.shape-shape.ensures.value c.place.ensures
-    (view-painted (tools_scene tools_now) _ _ c.paint_view.new.bench c.paint_view.result c.from_residual.result tools can
+    (view-painted (tools_scene tools_now) _ _ c.paint_view.new.bench c.paint_view.result c.from_residual.result (tools-are (tools_scene tools_now) c.textures.ensures c.colormap.ensures) can
     (mapped-err from_stop c.paint_view.result c.in_err-paint_view.field-0.0 c.from_residual.result c.in_err-paint_view.was c.from_residual.ensures.1)
     (view-value (brush_now g.S.Shelf.view g.C.Canvas.view) _ _ c.paint_view.result c.paint_view.ensures.asks)).paints
 
 pub returns-clause-within : goal.returns-clause-within
 returns-clause-within g c = λ bytes.
-    let v = c.args.tools.now.view.now in
+    let view_now = c.args.tools.now.view.now in
     let scene = c.args.tools.now.scene.now.scene in
-    subst (λ (limits : Limits). view_over v (scene_of bytes scene) limits ≡ None) (c.in_ok-paint_view.ensures.limits ∙ c.start.ensures.limits)
-    (within-walked v bytes scene c.paint_view.new.bench c.in_ok-paint_view.ensures.walked)
+    subst (λ (limits : Limits). view_over view_now (scene_of bytes scene) limits ≡ None) (c.in_ok-paint_view.ensures.limits ∙ c.start.ensures.limits)
+    (within-walked view_now bytes scene c.paint_view.new.bench c.in_ok-paint_view.ensures.walked)
 
 pub returns-clause-paints : goal.returns-clause-paints
 returns-clause-paints g c =
     let tools_now = c.args.tools.now in
-    let can : CanPaintView (tools_scene tools_now) (paint_state (g.S.Shelf.view tools_now.shelf.now) tools_now.cache.now (g.C.Canvas.view c.place.new.self)) = record {
-      can = c.requires.drawable;
-      placed = placed-frame tools_now.view.now c.shape-shape.result (g.C.Canvas.view tools_now.canvas.now) (g.C.Canvas.view c.place.new.self) c.shape-shape.ensures.value c.shape-shape.ensures.frame c.place.ensures;
-      sound = c.start.ensures.sound;
-    } in
-    let tools = ap (λ (textures : TexturesView). paint_tools tools_now.dir.now textures c.colormap.result.0) c.textures.ensures ∙ ap (paint_tools tools_now.dir.now (textures_view tools_now.scene.now.scene)) c.colormap.ensures in
+    let can = can-painted (tools_scene tools_now) c.shape-shape.result (g.S.Shelf.view tools_now.shelf.now) (g.C.Canvas.view tools_now.canvas.now) (g.C.Canvas.view c.place.new.self) c.requires.drawable c.shape-shape.ensures.value c.shape-shape.ensures.frame c.place.ensures c.start.ensures.sound in
     paints-placed tools_now.view.now c.shape-shape.result (g.C.Canvas.view tools_now.canvas.now) (g.C.Canvas.view c.place.new.self) c.shape-shape.ensures.value c.place.ensures
-    (view-painted (tools_scene tools_now) _ _ c.paint_view.new.bench c.paint_view.result _ tools can
+    (view-painted (tools_scene tools_now) _ _ c.paint_view.new.bench c.paint_view.result _ (tools-are (tools_scene tools_now) c.textures.ensures c.colormap.ensures) can
     (mapped-ok from_stop c.paint_view.result c.in_ok-paint_view.field-0 c.in_ok-paint_view.was)
     (view-value (brush_now g.S.Shelf.view g.C.Canvas.view) _ _ c.paint_view.result c.paint_view.ensures.asks)).paints
 

@@ -15,10 +15,10 @@ paint_masks-requires-clause-takes g c = masked-later c.in_ok-paint_floors.ensure
 
 pub returns-in_err-paint_floors-clause-asks : goal.returns-in_err-paint_floors-clause-asks
 returns-in_err-paint_floors-clause-asks g c =
-    let v = c.args.view.now in
-    let s = c.args.scene.now.scene in
+    let view_now = c.args.view.now in
+    let scene_now = c.args.scene.now.scene in
     let failure_is = err_from_is_err_and c.from_residual.result c.from_residual.ensures.1 in
-    receives-stop c.from_residual.result (masked_strips v (scene_noted v s) (draw_order (scene_entries v s))) _ c.paint_floors.ensures _ c.in_err-paint_floors.was (failure_is.1 ∙ ap Err failure_is.2) refl
+    receives-stop c.from_residual.result (masked_strips view_now (scene_noted view_now scene_now) (draw_order (scene_entries view_now scene_now))) _ c.paint_floors.ensures _ c.in_err-paint_floors.was (failure_is.1 ∙ ap Err failure_is.2) refl
 
 pub returns-clause-asks : goal.returns-clause-asks
 returns-clause-asks g c = receives-then _ c.paint_floors.ensures _ c.in_ok-paint_floors.was c.paint_masks.ensures.asks refl

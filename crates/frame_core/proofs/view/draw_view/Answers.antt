@@ -7,7 +7,7 @@ use Rattle.texture_build.specs.Draws.{FitBeside}
 use Rattle.frame_core.specs.Workshops.{WorkshopView}
 use Rattle.texture_build.proofs.DrawLemmas.{holds_art-later}
 use Rattle.frame_core.proofs.EnoughLemmas.{complete-view, enough-view}
-use Rattle.frame_core.proofs.ViewLemmas.{holds-back, over-at, pictured, steady-back}
+use Rattle.frame_core.proofs.ViewLemmas.{holds-back, over-at, pictured}
 use Rattle.frame_core.proofs.view.draw_view.Goals as goal
 
 pub returns-clause-picture : goal.returns-clause-picture
@@ -35,8 +35,8 @@ returns-clause-enough g c = λ contents count hold same room.
     enough-view c.requires contents count hold same room c.draw_parts.result c.draw_parts.ensures.paints.draws
 
 pub returns-clause-complete : goal.returns-clause-complete
-returns-clause-complete g c = λ contents count hold same room none.
-    complete-view c.requires contents count hold same room c.draw_parts.result c.draw_parts.ensures.paints.draws (steady-back g.S.Shelf.view _ _ c.draw_parts.new.tools.shelf.now (search rules) none)
+returns-clause-complete g c = λ contents count hold same room.
+    complete-view c.requires contents count hold same room c.draw_parts.result c.draw_parts.ensures.paints.draws
 
 pub returns-clause-again : goal.returns-clause-again
 returns-clause-again g c = λ contents count hold. holds-back g.S.Shelf.view _ c.draw_parts.new.tools.shelf.now _ c.draw_parts.new.tools.cache.now (search rules) (search rules) (holds_art-later c.draw_parts.ensures.paints.draws.keeps hold)

@@ -4,7 +4,7 @@ use Rattle.sound_scene.specs.Pictures.{scene_of}
 use Rattle.frame_core.specs.Workshops.{WorkshopView}
 use Rattle.texture_build.proofs.DrawLemmas.{holds_art-later}
 use Rattle.frame_core.proofs.EnoughLemmas.{complete-view, enough-view}
-use Rattle.frame_core.proofs.ViewLemmas.{holds-back, over-at, paints-back, steady-back, within-at}
+use Rattle.frame_core.proofs.ViewLemmas.{holds-back, over-at, paints-back, within-at}
 use Rattle.frame_core.proofs.view.draw_view_on.Goals as goal
 
 pub returns : goal.returns
@@ -20,7 +20,7 @@ returns g c =
       in_view = λ bytes. subst (λ (v : ViewValue). OnOk c.draw_parts.result (AreInView v.shape (view_paints v (scene_of bytes scene)))) c.new-view.ensures (parts_drawn.in_view bytes);
       window = subst (λ (v : ViewValue). IsWithinFrame v.shape) c.new-view.ensures parts_drawn.frame;
       enough = λ contents count hold same room. enough-view c.requires contents count hold same room c.draw_parts.result parts_drawn.paints.draws;
-      complete = λ contents count hold same room none. complete-view c.requires contents count hold same room c.draw_parts.result parts_drawn.paints.draws (steady-back g.S.Shelf.view _ _ new_tools.shelf.now (search rules) none);
+      complete = λ contents count hold same room. complete-view c.requires contents count hold same room c.draw_parts.result parts_drawn.paints.draws;
       again = λ contents count hold. holds-back g.S.Shelf.view _ new_tools.shelf.now _ new_tools.cache.now (search rules) (search rules) (holds_art-later parts_drawn.paints.draws.keeps hold);
       limits = parts_drawn.limits ∙ limits;
       frame = ap (λ (w : WorkshopView). w.frame) c.shop.view_is;
