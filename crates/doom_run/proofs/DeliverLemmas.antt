@@ -35,7 +35,7 @@ none_drawn level wads files delivery loaded stands none is =
 module _ (level : LevelJobValue) (delivery : Delivery) (view : ShelfView) (loaded : LoadedScene) (old : List ℕ → Type 0) (faults : ℕ) where
   pub memory_delivers : Delivers level delivery view view loaded old old faults faults OutOfMemory
   memory_delivers = record {
-    behaves = fault_behaves delivery.reads view view old faults fault.OutOfMemory tt;
+    behaves = fault_behaves delivery.reads view view old faults fault.OutOfMemory refl;
     tells = λ wads files of. record {
       ends = tt;
       zone_full = λ wanted widest e. absurd (cc);
@@ -51,7 +51,7 @@ telling_delivers level view loaded tells old new faults later status stands writ
     let bytes_due : Written = tells (λ lump. []) (loaded_value loaded) in
     let writes_due = writes (λ lump. []) in
     record {
-      behaves = due_behaves false view view bytes_due old new faults later status writes_due;
+      behaves = due_behaves false view view bytes_due old new faults later status writes_due refl;
       tells = λ wads files of.
           let bytes = wad_bytes wads files loaded.files.dir.lumps in
           record {
@@ -64,10 +64,10 @@ telling_delivers level view loaded tells old new faults later status stands writ
 
 -- a job that trims
 plan_caused : (plan : Result (List TrimPart) Refusal) (n : ℕ) (stop : Fault Refusal) → IsPlanFault plan stop → HasCauseAt n n stop
-plan_caused plan n (fault.Refused refusal) is = tt
+plan_caused plan n (fault.Refused refusal) is = refl
 plan_caused plan n fault.ReadFault is = absurd is
 plan_caused plan n (fault.ZoneFull wanted widest') is = absurd is
-plan_caused plan n fault.OutOfMemory is = tt
+plan_caused plan n fault.OutOfMemory is = refl
 
 plan_narrow : (plan : Result (List TrimPart) Refusal) (stop : Fault Refusal) (wanted widest' : ℕ) → IsPlanFault plan stop → status_of stop ≡ ZoneFull wanted widest' → ⊥
 plan_narrow plan (fault.Refused refusal) wanted widest' is e = cc
@@ -112,6 +112,8 @@ module _ (level : LevelJobValue) (loaded : LoadedScene) (view : ShelfView) (stan
       not_usage = λ e. subst IsDelivered e (written_answers result);
       read_fault = λ e. writes.read_fault (written_read result e);
       write_fault = λ e. writes.write_fault (written_failed result e);
+      read_settled = λ other. writes.read_settled (λ e. other (ap status_of_written e));
+      write_settled = λ other. writes.write_settled (λ e. other (ap status_of_written e));
     };
     tells = λ wads files of.
         let value : LoadedValue = loaded_value loaded in
@@ -127,6 +129,6 @@ module _ (level : LevelJobValue) (loaded : LoadedScene) (view : ShelfView) (stan
           least = λ end. none_drawn level wads files (trimming level) loaded stands (λ views. refl) of.is;
           reads = λ calm inside.
               keeps_once value loaded.cache cache view.taken after.taken (status_of_written result)
-              (written_order _ result (writes.order (loaded_items value) (copied_asked level wads files loaded parts stands of.is planned there) inside)) (λ e. calm (writes.read_fault (written_read result e)));
+              (written_order _ result (writes.order (loaded_items value) (copied_asked level wads files loaded parts stands of.is planned there) inside)) calm;
         };
   }

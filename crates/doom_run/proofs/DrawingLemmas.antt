@@ -49,6 +49,8 @@ module _ (level : LevelJobValue) (form : ViewForm) (ready left : ReadyViews) (vi
       not_usage = λ e. subst IsDelivered e renders.answers;
       read_fault = renders.read_fault;
       write_fault = renders.write_fault;
+      read_settled = renders.read_settled;
+      write_settled = renders.write_settled;
     };
     tells = λ wads files of.
         let value : LoadedValue = loaded_value ready.loaded in
@@ -65,6 +67,6 @@ module _ (level : LevelJobValue) (form : ViewForm) (ready left : ReadyViews) (vi
               (ready_bytes contents ready) colours ready) (sym files_are_named.are) (fits files_are_named.contents colours art_held end));
           reads = λ calm inside.
               keeps_once value ready.loaded.cache left.loaded.cache view.taken after.taken status
-              (renders.order (loaded_items value) (ready_asked level wads files ready of.is stands) inside) (λ e. calm (renders.read_fault e));
+              (renders.order (loaded_items value) (ready_asked level wads files ready of.is stands) inside) calm;
         };
   }

@@ -126,6 +126,8 @@ module _ (n zone : ℕ) (format : Format) where
             not_usage = rendering.behaves.not_usage;
             read_fault = λ e. absurd (reads e);
             write_fault = λ e. absurd (no_write_fault e);
+            read_settled = λ other. refl;
+            write_settled = λ other. refl;
           };
           asked = λ e. absurd (reads e);
           zoned = λ wanted widest e. refl;
@@ -151,8 +153,8 @@ module _ (n zone : ℕ) (format : Format) where
     -- all frames were rendered, and their summary is written
     pub exercise_done : (view : ShelfView) (old new : List ℕ → Type 0) (faults later : ℕ) (status : Status) (summary : Summary) → t0 ≡ record { count = 0; sum = 0 } → Rendered Done →
         summary ≡ record { sectors = 4 * n * n; views = 3 * n; frames = t1.count / frame_size format; bytes = t1.count; sum = t1.sum } →
-        DeliversBytes (summary_line summary) old new status → (status ≡ WriteFault → FaultsRose faults later) → Performs exercise_job view view old new faults later status
-    exercise_done view old new faults later status summary first rendering summed writes failed =
+        DeliversBytes (summary_line summary) old new status → (status ≡ WriteFault → FaultsRose faults later) → ((status ≡ WriteFault → ⊥) → later ≡ faults) → Performs exercise_job view view old new faults later status
+    exercise_done view old new faults later status summary first rendering summed writes failed passed =
         let render_tells = said Done rendering in
         let accepted_load = accepted_by made_views (rendered (Frame format)) loading render_tells.ends.accepted render_tells.ends.is in
         let views_value = made_views accepted_load.0 in
@@ -164,7 +166,7 @@ module _ (n zone : ℕ) (format : Format) where
         ap (λ (bytes : List ℕ). record { output = bytes; end = Done }) line ∙ ap (λ (e : Status). record { output = exercised_bytes n format views_value; end = e }) (sym end) in
         let delivers : DeliversAt (done (summary_line summary)) old new status = bytes_deliver (summary_line summary) old new status writes in
         record {
-          behaves = due_behaves false view view (done (summary_line summary)) old new faults later status (record { ends = delivers; write_fault = failed });
+          behaves = due_behaves false view view (done (summary_line summary)) old new faults later status (record { ends = delivers; write_fault = failed; write_settled = passed }) refl;
           asked = λ e. absurd (delivers_all (done (summary_line summary)) old new status delivers (rw e tt));
           zoned = λ wanted widest e. refl;
           tells = λ held holds. record {

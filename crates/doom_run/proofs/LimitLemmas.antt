@@ -79,6 +79,7 @@ module _ (lines : Scene → ℕ → SeenView → List ℕ) where
   puts-stopped {x = x} n failed puts below bytes = record {
     ends = prefix_first (lines_at lines (ready_views bytes x)) (n + 1) (length (ready_views bytes x).views) (omega (arith, views_count bytes x, below)) (puts.writes bytes).err;
     write_fault = λ e. (puts.writes bytes).failed;
+    write_settled = λ other. absurd (other refl);
   }
 
   -- the lines of all views were written
@@ -87,4 +88,4 @@ module _ (lines : Scene → ℕ → SeenView → List ℕ) where
   unfolding view_lines
   puts-all {x = x} {a = a} {c} n puts all bytes =
       let whole : n ≡ length (ready_views bytes x).views = omega (arith, views_count bytes x, all) in
-      record { ends = (refl, subst (λ (m : ℕ). Grew a c (first_lines m (ready_views bytes x))) whole (puts.writes bytes).ok); write_fault = λ e. absurd (cc) }
+      record { ends = (refl, subst (λ (m : ℕ). Grew a c (first_lines m (ready_views bytes x))) whole (puts.writes bytes).ok); write_fault = λ e. absurd (cc); write_settled = λ other. (puts.writes bytes).settled }

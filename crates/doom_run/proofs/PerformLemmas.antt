@@ -1,5 +1,5 @@
 -- A run of a job: stopped while it loads, or by what is done with what was loaded.
-use Rattle.std.proofs.Common.{◌≡◌, ◌≤◌, ◌+◌, inl, inr, ℕ, zero, Bool, true, false, IsTrue, List, Option, None, Some, Result, Ok, Err, refl, arith, ap, sym, subst}
+use Rattle.std.proofs.Common.{◌≡◌, ◌≤◌, ◌+◌, ◌∙◌, inl, inr, ℕ, zero, Bool, true, false, IsTrue, List, Option, None, Some, Result, Ok, Err, refl, arith, ap, sym, subst}
 use Rattle.doom_run.specs.Rules.{CommandValue, Fault, FaultFitsOrAbsent, FaultsRose, File, HasCauseAt, Holds, LevelJobValue, ShelfView, Stop, and_then, from_below}
 use Rattle.art_rules.specs.Fault.TheVariants as fault
 use Rattle.art_rules.proofs.Laws.{grew_none, stops_all}
@@ -21,30 +21,28 @@ use Rattle.doom_run.specs.Verdict.{Accepted, accepted_in, delivered, work_verdic
 use Rattle.doom_run.proofs.EndLemmas.{delivers_all, delivers_more, delivers_render, fault_end, fault_no_end, loaded_named, renders_end}
 use Rattle.doom_run.proofs.TakeLemmas.{calm_order}
 
--- a count that rose later rose
-rose_later : (i j k : ℕ) → i ≤ j → FaultsRose j k → FaultsRose i k
-rose_later i j k le rose = omega (arith, le, rose)
-
 -- a fault before anything is written
 pub fault_behaves : (reads_on : Bool) (before after : ShelfView) (old : List ℕ → Type 0) (faults : ℕ) (stop : Fault Refusal) → HasCauseAt before.faults after.faults stop →
     Behaves reads_on before after old old faults faults (status_of stop)
 fault_behaves reads_on before after old faults (fault.Refused refusal) cause =
-    record { unwritten = λ is. grew_none old; unread = λ none is. grew_none old; not_usage = λ e. cc; read_fault = λ e. absurd (cc); write_fault = λ e. absurd (cc) }
+    record { unwritten = λ is. grew_none old; unread = λ none is. grew_none old; not_usage = λ e. cc; read_fault = λ e. absurd (cc); write_fault = λ e. absurd (cc); read_settled = λ other. cause; write_settled = λ other. refl }
 fault_behaves reads_on before after old faults fault.ReadFault cause =
-    record { unwritten = λ is. grew_none old; unread = λ none is. grew_none old; not_usage = λ e. cc; read_fault = λ e. cause; write_fault = λ e. absurd (cc) }
+    record { unwritten = λ is. grew_none old; unread = λ none is. grew_none old; not_usage = λ e. cc; read_fault = λ e. cause; write_fault = λ e. absurd (cc); read_settled = λ other. absurd (other refl); write_settled = λ other. refl }
 fault_behaves reads_on before after old faults (fault.ZoneFull wanted widest) cause =
-    record { unwritten = λ is. grew_none old; unread = λ none is. grew_none old; not_usage = λ e. cc; read_fault = λ e. absurd (cc); write_fault = λ e. absurd (cc) }
+    record { unwritten = λ is. grew_none old; unread = λ none is. grew_none old; not_usage = λ e. cc; read_fault = λ e. absurd (cc); write_fault = λ e. absurd (cc); read_settled = λ other. cause; write_settled = λ other. refl }
 fault_behaves reads_on before after old faults fault.OutOfMemory cause =
-    record { unwritten = λ is. grew_none old; unread = λ none is. grew_none old; not_usage = λ e. cc; read_fault = λ e. absurd (cc); write_fault = λ e. absurd (cc) }
+    record { unwritten = λ is. grew_none old; unread = λ none is. grew_none old; not_usage = λ e. cc; read_fault = λ e. absurd (cc); write_fault = λ e. absurd (cc); read_settled = λ other. cause; write_settled = λ other. refl }
 
 -- a call that writes all that is due, and reads no more
-pub due_behaves : (reads_on : Bool) (before after : ShelfView) (due : Written) (old new : List ℕ → Type 0) (faults later : ℕ) (status : Status) → WritesDue due old new faults later status → Behaves reads_on before after old new faults later status
-due_behaves reads_on before after due old new faults later status writes = record {
+pub due_behaves : (reads_on : Bool) (before after : ShelfView) (due : Written) (old new : List ℕ → Type 0) (faults later : ℕ) (status : Status) → WritesDue due old new faults later status → after.faults ≡ before.faults → Behaves reads_on before after old new faults later status
+due_behaves reads_on before after due old new faults later status writes settled = record {
   unwritten = λ is. absurd (delivers_more due old new status writes.ends is);
   unread = λ none is. absurd (delivers_all due old new status writes.ends is);
   not_usage = λ e. subst (λ s. DeliversAt due old new s) e writes.ends;
   read_fault = λ e. absurd (delivers_all due old new status writes.ends (rw e tt));
   write_fault = writes.write_fault;
+  read_settled = λ other. settled;
+  write_settled = writes.write_settled;
 }
 
 -- nothing was read
@@ -55,7 +53,7 @@ takes_none (over work) held n = λ loaded is room. omega arith
 -- memory ran out before anything was asked for
 pub memory_performs : (job : Job) (view : ShelfView) (old : List ℕ → Type 0) (faults : ℕ) → Performs job view view old old faults faults OutOfMemory
 memory_performs job view old faults = record {
-  behaves = fault_behaves job.reads_on view view old faults fault.OutOfMemory tt;
+  behaves = fault_behaves job.reads_on view view old faults fault.OutOfMemory refl;
   asked = λ e. absurd (cc);
   zoned = λ wanted widest e. absurd (cc);
   tells = λ held holds. record {
@@ -73,7 +71,7 @@ command_runs value is idle performs = rw is (record { runs = performs; untouched
 
 -- whether the words are a command or not
 pub memory_runs : (command : Option CommandValue) (view : ShelfView) (old : List ℕ → Type 0) (faults : ℕ) → RunsAs command view view old old faults faults OutOfMemory
-memory_runs None view old faults = record { runs = (inr refl, grew_none old); untouched = λ idle. refl }
+memory_runs None view old faults = record { runs = (inr refl, grew_none old, refl); untouched = λ idle. refl }
 memory_runs (Some command) view old faults = record { runs = memory_performs (job_of command) view old faults; untouched = λ idle. refl }
 
 -- a job without a level
@@ -98,9 +96,9 @@ module _ (writes : List File → Result Written (Stop Refusal)) (most : List Fil
 
   -- whose bytes were written
   pub plain_delivers : (asks : Bool) (due : Written) (before after : ShelfView) (old new : List ℕ → Type 0) (faults later : ℕ) (status : Status) → ((held : List File) → (IsTrue asks → Holds before held) → writes held ≡ Ok due) →
-      DeliversAt due old new status → (status ≡ WriteFault → FaultsRose faults later) → ((held : List File) → (IsTrue asks → Holds before held) → after.taken ≤ before.taken + most held) → Performs (plain_job asks) before after old new faults later status
-  plain_delivers asks due before after old new faults later status is delivers failed few = record {
-    behaves = due_behaves false before after due old new faults later status (record { ends = delivers; write_fault = failed });
+      DeliversAt due old new status → (status ≡ WriteFault → FaultsRose faults later) → ((status ≡ WriteFault → ⊥) → later ≡ faults) → after.faults ≡ before.faults → ((held : List File) → (IsTrue asks → Holds before held) → after.taken ≤ before.taken + most held) → Performs (plain_job asks) before after old new faults later status
+  plain_delivers asks due before after old new faults later status is delivers failed passed settled few = record {
+    behaves = due_behaves false before after due old new faults later status (record { ends = delivers; write_fault = failed; write_settled = passed }) settled;
     asked = λ e. absurd (delivers_all due old new status delivers (rw e tt));
     zoned = λ wanted widest e. absurd (delivers_all due old new status delivers (rw e tt));
     tells = λ held holds. record {
@@ -127,7 +125,7 @@ module _ (level : LevelJobValue) (wads : List (List ℕ)) (delivery : Delivery) 
           zone_full = λ wanted widest e. inl (status_full (IsFullLoad level wads held) stop wanted widest e (now.full held (holds refl)));
           least = λ end. absurd (fault_no_end stop end);
           reads = λ calm expected is room.
-              let files_are_named = loaded_named level wads held expected is in calm_order before.faults after.faults stop calm now.causes.err
+              let files_are_named = loaded_named level wads held expected is in calm_order stop calm
               (now.order held files_are_named.contents expected (holds refl) files_are_named.named is room);
         };
       }
@@ -145,14 +143,15 @@ module _ (level : LevelJobValue) (wads : List (List ℕ)) (delivery : Delivery) 
       Delivers level delivery mid after loaded old new faults later status → Performs (job_over level wads delivery) before after old new faults later status
   loads_performs {mid} {after} {old} {new} {faults} {later} {status} loaded now delivers =
       let value : LoadedValue = loaded_value loaded in
-      let rose : FaultsRose mid.faults after.faults → FaultsRose before.faults after.faults = λ some. rose_later before.faults mid.faults after.faults now.follows.faults some in
       record {
         behaves = record {
           unwritten = delivers.behaves.unwritten;
           unread = delivers.behaves.unread;
           not_usage = delivers.behaves.not_usage;
-          read_fault = λ e. rose (delivers.behaves.read_fault e);
+          read_fault = λ e. subst (λ n. FaultsRose n after.faults) now.causes.ok (delivers.behaves.read_fault e);
           write_fault = delivers.behaves.write_fault;
+          read_settled = λ other. delivers.behaves.read_settled other ∙ now.causes.ok;
+          write_settled = delivers.behaves.write_settled;
         };
         asked = λ e. refl;
         zoned = λ wanted widest e. refl;
@@ -170,7 +169,7 @@ module _ (level : LevelJobValue) (wads : List (List ℕ)) (delivery : Delivery) 
                   let files_are_named = loaded_named level wads held value level_loads in
                   let zone_is_roomy : (loaded_sizes value).roomy ≤ level.settings.zone = subst (λ (l : LoadedValue). (loaded_sizes l).roomy ≤ level.settings.zone) (sym value_same) room in
                   let once = now.order held files_are_named.contents value (holds refl) files_are_named.named level_loads zone_is_roomy in
-                  let bytes_read = what_it_tells.reads (λ some. calm (rose some)) once.order in
+                  let bytes_read = what_it_tells.reads calm once.order in
                   let taken_most : after.taken ≤ before.taken + (files_size level.files wads held + lumps_size value) = omega (arith, once.taken, bytes_read) in
                   subst (λ (l : LoadedValue). after.taken ≤ before.taken + (files_size level.files wads held + lumps_size l)) value_same taken_most;
             };

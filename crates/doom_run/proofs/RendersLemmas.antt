@@ -1,6 +1,7 @@
 -- What calls leave that draw views of a ready scene and write them, by their status.
-use Rattle.picture_rules.proofs.Common.{arith, Err, Ok, List, Result, subst, ℕ, ◌≡◌, ◌≤◌}
+use Rattle.picture_rules.proofs.Common.{arith, Err, Ok, List, refl, Result, subst, ℕ, ◌∙◌, ◌≡◌, ◌≤◌}
 use Rattle.doom_run.specs.Rules.{FaultsRose, HasCauseAt, IsInOrder, Item, KeepsOrder, ShelfView}
+use Rattle.art_rules.proofs.Laws.{causes_settled}
 use Rattle.scene_rules.proofs.Laws.{order_none, order_then}
 use Rattle.texture_build.specs.Calls.{IfFull, InOrderAt}
 use Rattle.frame_core.specs.{declared.fault.ViewFault.ViewFault, Faults.view_fault}
@@ -21,6 +22,8 @@ renders-none view ready faults = record {
   order = λ items asked order. order_none items ready.loaded.cache view.taken order;
   read_fault = λ e. absurd (cc);
   write_fault = λ e. absurd (cc);
+  read_settled = λ other. refl;
+  write_settled = λ other. refl;
   zone_full = λ wanted widest' e. absurd (cc);
   rises = omega arith;
   keeps = keeps_ready-none view ready;
@@ -28,13 +31,15 @@ renders-none view ready faults = record {
 
 -- views are drawn after others
 pub renders-then : {a b c : ShelfView} {x y z : ReadyViews} {i j k : ℕ} {status : Status} → RendersReady a b x y i j Done → RendersReady b c y z j k status → RendersReady a c x z i k status
-renders-then {status = status} one two = record {
+renders-then {c = c} {k = k} {status = status} one two = record {
   answers = two.answers;
   order = λ items asked order.
       let order_kept = one.order items asked order in
       after_all status (λ more. order_then order_kept more) (two.order items (asked-later items one.keeps asked) order_kept.order);
-  read_fault = λ e. omega (arith, one.keeps.art.follows.faults, two.read_fault e);
-  write_fault = λ e. omega (arith, one.rises, two.write_fault e);
+  read_fault = λ e. subst (λ n. FaultsRose n c.faults) (one.read_settled (λ is. cc)) (two.read_fault e);
+  write_fault = λ e. subst (λ n. FaultsRose n k) (one.write_settled (λ is. cc)) (two.write_fault e);
+  read_settled = λ other. two.read_settled other ∙ one.read_settled (λ is. cc);
+  write_settled = λ other. two.write_settled other ∙ one.write_settled (λ is. cc);
   zone_full = λ wanted widest' e. full-first wanted widest' one.keeps (two.zone_full wanted widest' e);
   rises = omega (arith, one.rises, two.rises);
   keeps = keeps_ready-then one.keeps two.keeps;
@@ -45,12 +50,14 @@ module _ (k : ℕ) (view after : ShelfView) (old new : ReadyViews) (keeps : Keep
       ((items : List Item) → HasReadyAsked items old → IsInOrder items old.loaded.cache → InOrderAt (view_fault f) (KeepsOrder items old.loaded.cache new.loaded.cache view.taken after.taken)) →
       RendersReady view after old new faults faults (status_of_view k f)
   fault_renders (fault.Limit kind count) faults cause full order =
-      record { answers = tt; order = order; read_fault = λ e. absurd (cc); write_fault = λ e. absurd (cc); zone_full = λ wanted widest' e. absurd (cc); rises = omega arith; keeps = keeps }
+      record { answers = tt; order = order; read_fault = λ e. absurd (cc); write_fault = λ e. absurd (cc); read_settled = λ other. cause; write_settled = λ other. refl; zone_full = λ wanted widest' e. absurd (cc); rises = omega arith; keeps = keeps }
   fault_renders (fault.ZoneFull wide gap) faults cause full order = record {
     answers = tt;
     order = order;
     read_fault = λ e. absurd (cc);
     write_fault = λ e. absurd (cc);
+    read_settled = λ other. cause;
+    write_settled = λ other. refl;
     zone_full = λ wanted widest' e.
         let wanted_same : wide ≡ wanted = cc in
         let widest_same : gap ≡ widest' = cc in
@@ -59,7 +66,7 @@ module _ (k : ℕ) (view after : ShelfView) (old new : ReadyViews) (keeps : Keep
     keeps = keeps;
   }
   fault_renders fault.ReadFault faults cause full order =
-      record { answers = tt; order = order; read_fault = λ e. cause; write_fault = λ e. absurd (cc); zone_full = λ wanted widest' e. absurd (cc); rises = omega arith; keeps = keeps }
+      record { answers = tt; order = order; read_fault = λ e. cause; write_fault = λ e. absurd (cc); read_settled = λ other. absurd (other refl); write_settled = λ other. refl; zone_full = λ wanted widest' e. absurd (cc); rises = omega arith; keeps = keeps }
 
 -- one view, by what drawing it answers
 module _ {k : ℕ} {view after : ShelfView} {old new : ReadyViews} {canvas : ViewCanvas} {drawn : Result (Unit {0}) ViewFault} (draws : DrawsAt k view after old new canvas drawn) where
@@ -73,15 +80,18 @@ module _ {k : ℕ} {view after : ShelfView} {old new : ReadyViews} {canvas : Vie
     kept : (items : List Item) → HasReadyAsked items old → IsInOrder items old.loaded.cache → KeepsOrder items old.loaded.cache new.loaded.cache view.taken after.taken
     kept items asked order = rw was at (draws.draws.order items asked.textures (λ lump. both_asked old items asked lump) order)
 
+    drawn_settled : after.faults ≡ view.faults
+    drawn_settled = causes_settled unit draws.draws.causes was
+
     -- it is written
-    pub renders_put : {faults later : ℕ} → faults ≤ later → RendersReady view after old new faults later Done
-    renders_put rises =
-        record { answers = tt; order = kept; read_fault = λ e. absurd (cc); write_fault = λ e. absurd (cc); zone_full = λ wanted widest' e. absurd (cc); rises = rises; keeps = draws.keeps }
+    pub renders_put : {faults later : ℕ} → faults ≤ later → later ≡ faults → RendersReady view after old new faults later Done
+    renders_put rises settled =
+        record { answers = tt; order = kept; read_fault = λ e. absurd (cc); write_fault = λ e. absurd (cc); read_settled = λ other. drawn_settled; write_settled = λ other. settled; zone_full = λ wanted widest' e. absurd (cc); rises = rises; keeps = draws.keeps }
 
     -- or writing it fails
     pub renders_failed : {faults later : ℕ} → faults ≤ later → FaultsRose faults later → RendersReady view after old new faults later WriteFault
     renders_failed rises rose =
-        record { answers = tt; order = kept; read_fault = λ e. absurd (cc); write_fault = λ e. rose; zone_full = λ wanted widest' e. absurd (cc); rises = rises; keeps = draws.keeps }
+        record { answers = tt; order = kept; read_fault = λ e. absurd (cc); write_fault = λ e. rose; read_settled = λ other. drawn_settled; write_settled = λ other. absurd (other refl); zone_full = λ wanted widest' e. absurd (cc); rises = rises; keeps = draws.keeps }
 
 -- a fault is not the end of the path
 pub fault_not_done : (k : ℕ) (f : ViewFault) → status_of_view k f ≡ Done → ⊥

@@ -1,5 +1,5 @@
 -- What the run of words says, whether they are a command or not.
-use Rattle.picture_rules.proofs.Common.{[], Bool, Err, false, IfSome, inl, inr, IsTrue, List, None, Ok, Option, option_map_or, refl, Result, Some, ℕ, ◌≡◌, ◌≤◌, ◌⊎◌}
+use Rattle.picture_rules.proofs.Common.{[], ap, Bool, Err, false, IfSome, inl, inr, IsTrue, List, None, Ok, Option, option_map_or, refl, Result, Some, ℕ, ◌≡◌, ◌≤◌, ◌⊎◌}
 use Rattle.doom_run.specs.Rules.{CommandValue, FaultsRose, File, Grew, Holds, ShelfView, Stop, and_then, from_below}
 use Rattle.refusals.specs.declared.refusal.Refusal.{Refusal}
 use Rattle.job_files.specs.declared.status.Status.{Status}
@@ -70,6 +70,14 @@ module _ {before after : ShelfView} {old new : List ℕ → Type 0} {faults late
   runs_write_fault None runs is = absurd (none_is status runs.runs.0 WriteFault (λ e. cc) (λ e. cc) is)
   runs_write_fault (Some command) runs is = runs.runs.behaves.write_fault is
 
+  pub runs_read_settled : (command : Option CommandValue) → RunsAs command before after old new faults later status → (status ≡ ReadFault → ⊥) → after.faults ≡ before.faults
+  runs_read_settled None runs other = ap (λ (view : ShelfView). view.faults) (runs.untouched refl)
+  runs_read_settled (Some command) runs other = runs.runs.behaves.read_settled other
+
+  pub runs_write_settled : (command : Option CommandValue) → RunsAs command before after old new faults later status → (status ≡ WriteFault → ⊥) → later ≡ faults
+  runs_write_settled None runs other = runs.runs.2
+  runs_write_settled (Some command) runs other = runs.runs.behaves.write_settled other
+
   pub runs_asked : (command : Option CommandValue) → RunsAs command before after old new faults later status → status ≡ ReadFault → IsTrue (option_map_or (λ c. (job_of c).asks) command false)
   runs_asked None runs is = absurd (none_is status runs.runs.0 ReadFault (λ e. cc) (λ e. cc) is)
   runs_asked (Some command) runs is = runs.runs.asked is
@@ -86,6 +94,6 @@ module _ {before after : ShelfView} {old new : List ℕ → Type 0} {faults late
   runs_least None runs held is holds = absurd (no_end status runs.runs.0 is)
   runs_least (Some command) runs held is holds = (runs.runs.tells held holds).least is
 
-  pub runs_taken : (command : Option CommandValue) → RunsAs command before after old new faults later status → (held : List File) → HoldsFor before command held → (FaultsRose before.faults after.faults → ⊥) → IfSome command (λ c. CommandTakes c held before.taken after.taken)
+  pub runs_taken : (command : Option CommandValue) → RunsAs command before after old new faults later status → (held : List File) → HoldsFor before command held → (status ≡ ReadFault → ⊥) → IfSome command (λ c. CommandTakes c held before.taken after.taken)
   runs_taken None runs held holds calm = tt
   runs_taken (Some command) runs held holds calm = (runs.runs.tells held holds).reads calm

@@ -1,13 +1,13 @@
 -- How many bytes are read while a zone stays in order.
 use Rattle.picture_rules.proofs.Common.{arith, refl, ℕ, ◌+◌, ◌≡◌, ◌≤◌}
-use Rattle.doom_run.specs.Rules.{Fault, FaultsRose, HasCauseAt, Heap, KeepsOrder, live_sum, lump_size}
+use Rattle.doom_run.specs.Rules.{Fault, Heap, KeepsOrder, live_sum, lump_size}
 use Rattle.art_rules.specs.Fault.TheVariants as fault
 use Rattle.texture_build.specs.Calls.{InOrderAt}
 use Rattle.refusals.specs.declared.refusal.Refusal.{Refusal}
 use Rattle.level_audit.specs.scene_load.Loads.{LoadedValue}
 use Rattle.level_audit.specs.scene_load.Orders.{loaded_items, lumps_size}
 use Rattle.level_audit.proofs.scene_load.OrderLemmas.{items_read}
-use Rattle.job_files.specs.declared.status.Status.{Status}
+use Rattle.job_files.specs.{Statuses.status_of, declared.status.Status.Status}
 use Rattle.job_files.specs.declared.status.Status.TheVariants.{Done, Usage, Refused, ReadFault, WriteFault, Limit, ZoneFull, OutOfMemory}
 use Rattle.doom_run.specs.Takes.{InOrderAfter}
 
@@ -23,11 +23,11 @@ after_all (ZoneFull wanted widest) f p = p
 after_all OutOfMemory f p = f p
 
 -- what is said of a fault, where no read failed
-pub calm_order : {P : Type 0} (i j : ℕ) (f : Fault Refusal) → (FaultsRose i j → ⊥) → HasCauseAt i j f → InOrderAt f P → P
-calm_order i j (fault.Refused refusal) calm cause order = order
-calm_order i j fault.ReadFault calm cause order = absurd (calm cause)
-calm_order i j (fault.ZoneFull wanted widest) calm cause order = absurd order
-calm_order i j fault.OutOfMemory calm cause order = order
+pub calm_order : {P : Type 0} (f : Fault Refusal) → (status_of f ≡ ReadFault → ⊥) → InOrderAt f P → P
+calm_order (fault.Refused refusal) calm order = order
+calm_order fault.ReadFault calm order = absurd (calm refl)
+calm_order (fault.ZoneFull wanted widest) calm order = absurd order
+calm_order fault.OutOfMemory calm order = order
 
 -- What is read in a zone in order, while a level is drawn or copied, is live afterwards, unless a read failed.
 module _ (loaded : LoadedValue) (y z : Heap) (before after : ℕ) where

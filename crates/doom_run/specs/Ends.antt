@@ -45,10 +45,11 @@ DeliversAt due old new (Limit view kind count) = (due.end ≡ Limit view kind co
 DeliversAt due old new (ZoneFull wanted widest) = ⊥
 DeliversAt due old new OutOfMemory = ⊥
 
--- the same of a call that writes: a write fault comes only from the object that counted it
+-- the same of a call that writes: a write fault comes only from the object that counted it, which counts nothing else
 pub record WritesDue (due : Written) (old new : List ℕ → Type 0) (faults later : ℕ) (status : Status) : Type 0 where
   pub ends : DeliversAt due old new status
   pub write_fault : status ≡ WriteFault → FaultsRose faults later
+  pub write_settled : (status ≡ WriteFault → ⊥) → later ≡ faults
 
 -- what was written by the status of a job that reads on while it writes: over a steady shelf no read fails
 abbrev pub RendersAt : Bool → Written → (List ℕ → Type 0) → (List ℕ → Type 0) → Status → Type 0

@@ -1,5 +1,5 @@
 -- How the program ends.
-use Rattle.std.specs.Prelude.{◌≡◌, ℕ, List, Option}
+use Rattle.std.specs.Prelude.{◌≡◌, ◌≤◌, ℕ, List, Option}
 use Rattle.doom_run.specs.Rules.{CommandValue, FaultsRose, Grew, GrewByPrefix, ShelfView}
 use Rattle.job_files.specs.{Lines.line_of, Statuses.code_of, declared.status.Status.Status}
 use Rattle.doom_run.specs.Performs.{RunsAs}
@@ -12,4 +12,6 @@ pub record ExitsAs (command : Option CommandValue) (before after : ShelfView) (o
   pub runs : RunsAs command before after old new faults later status
   pub part : GrewByPrefix notes noted (line_of status)
   pub line : (FaultsRose note_faults note_later → ⊥) → Grew notes noted (line_of status)
+  -- the notes' count of faults never falls
+  pub notes_later : note_faults ≤ note_later
   pub is : number ≡ code_of status

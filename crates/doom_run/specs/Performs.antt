@@ -22,13 +22,16 @@ pub record Behaves (reads_on : Bool) (before after : ShelfView) (old new : List 
   -- a fault comes only from the object that counted it
   pub read_fault : status ≡ ReadFault → FaultsRose before.faults after.faults
   pub write_fault : status ≡ WriteFault → FaultsRose faults later
+  -- and after any other status its count is as it was: no fault is passed over
+  pub read_settled : (status ≡ ReadFault → ⊥) → after.faults ≡ before.faults
+  pub write_settled : (status ≡ WriteFault → ⊥) → later ≡ faults
 
 -- What a status says of a job where these files are held.
 pub record Tells (job : Job) (files : List File) (before after : ShelfView) (old new : List ℕ → Type 0) (status : Status) : Type 0 where
   pub ends : EndsAt before.steady (job_verdict job files) old new status
   pub zone_full : (wanted widest : ℕ) → status ≡ ZoneFull wanted widest → IsFullTask job.task files wanted widest
   pub least : IsEnd status → task_least job.task files ≤ zone_of job.task
-  pub reads : (FaultsRose before.faults after.faults → ⊥) → TaskTakes job.task files before.taken after.taken
+  pub reads : (status ≡ ReadFault → ⊥) → TaskTakes job.task files before.taken after.taken
 
 -- A run of a job.
 pub record Performs (job : Job) (before after : ShelfView) (old new : List ℕ → Type 0) (faults later : ℕ) (status : Status) : Type 0 where
@@ -49,7 +52,7 @@ pub record TellsOver (level : LevelJobValue) (wads : List (List ℕ)) (files : L
   pub ends : EndsAt before.steady (from_below at_step (delivered delivery (wad_bytes wads files loaded.files.dir.lumps) (loaded_value loaded))) old new status
   pub zone_full : (wanted widest : ℕ) → status ≡ ZoneFull wanted widest → IsTrue delivery.reads × IsFullDraw level wads files wanted widest
   pub least : IsEnd status → delivery_least level delivery (wad_bytes wads files loaded.files.dir.lumps) (loaded_value loaded) ≤ level.settings.zone
-  pub reads : (FaultsRose before.faults after.faults → ⊥) → IsInOrder (loaded_items (loaded_value loaded)) loaded.cache →
+  pub reads : (status ≡ ReadFault → ⊥) → IsInOrder (loaded_items (loaded_value loaded)) loaded.cache →
       after.taken + live_sum lump_size (loaded_items (loaded_value loaded)) loaded.cache.blocks ≤ before.taken + lumps_size (loaded_value loaded)
 
 -- What is done with a level that is loaded.
@@ -60,11 +63,11 @@ pub record Delivers (level : LevelJobValue) (delivery : Delivery) (before after 
 
 -- A run of words, which are a command or not.
 abbrev pub RunsBy : Option CommandValue → ShelfView → ShelfView → (List ℕ → Type 0) → (List ℕ → Type 0) → ℕ → ℕ → Status → Type 0
-RunsBy None before after old new faults later status = ((status ≡ Usage) ⊎ (status ≡ OutOfMemory)) × Grew old new []
+RunsBy None before after old new faults later status = ((status ≡ Usage) ⊎ (status ≡ OutOfMemory)) × Grew old new [] × (later ≡ faults)
 RunsBy (Some command) before after old new faults later status = Performs (job_of command) before after old new faults later status
 
 pub record RunsAs (command : Option CommandValue) (before after : ShelfView) (old new : List ℕ → Type 0) (faults later : ℕ) (status : Status) : Type 0 where
-  -- it is one of the command; or where there is none the status says so, unless memory ran out
+  -- it is one of the command; or where there is none the status says so, unless memory ran out, and nothing is written
   pub runs : RunsBy command before after old new faults later status
   -- only a command that asks for files touches the shelf
   pub untouched : option_map_or (λ c. (job_of c).asks) command false ≡ false → after ≡ before

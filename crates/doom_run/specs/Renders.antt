@@ -103,6 +103,9 @@ pub record RendersReady (view after : ShelfView) (old new : ReadyViews) (faults 
       InOrderAfter status (KeepsOrder items old.loaded.cache new.loaded.cache view.taken after.taken)
   pub read_fault : status ≡ ReadFault → FaultsRose view.faults after.faults
   pub write_fault : status ≡ WriteFault → FaultsRose faults later
+  -- and after any other status that count is as it was
+  pub read_settled : (status ≡ ReadFault → ⊥) → after.faults ≡ view.faults
+  pub write_settled : (status ≡ WriteFault → ⊥) → later ≡ faults
   pub zone_full : (wanted widest' : ℕ) → status ≡ ZoneFull wanted widest' → IsFullView old wanted widest'
   pub rises : faults ≤ later
   pub keeps : KeepsReady view after old new

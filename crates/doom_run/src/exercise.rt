@@ -169,6 +169,8 @@ fn deliver_exercise<K: Sink>(summary: &Summary, out: &mut K) -> Status
         (K.written out.new) result }
     ensures write_fault { result ≡ Status.WriteFault →
         FaultsRose (K.faults out.old) (K.faults out.new) }
+    ensures write_settled { (result ≡ Status.WriteFault → ⊥) →
+        K.faults out.new ≡ K.faults out.old }
 {
     match put_summary(out, summary) {
         Ok(()) => Status::Done,

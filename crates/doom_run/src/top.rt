@@ -90,6 +90,14 @@ pub fn run<S: Shelf, K: Sink, N: Sink>(
     ensures write_fault { result ≡ Status.WriteFault →
         FaultsRose (K.faults out.old) (K.faults out.new) }
 
+    // And a fault that was counted is told: after every other status the count of the shelf, and
+    // that of the output, is as it was. So no call that failed is tried again or passed over, and
+    // what is said below of a run without a fault is said of every run that does not end in one.
+    ensures read_settled { (result ≡ Status.ReadFault → ⊥) →
+        (S.view shelf.new).faults ≡ (S.view shelf.old).faults }
+    ensures write_settled { (result ≡ Status.WriteFault → ⊥) →
+        K.faults out.new ≡ K.faults out.old }
+
     // A full zone comes only for a job whose files are in order, and the zone is small.
     ensures zone_full { (files : List File) (wanted widest : ℕ) →
         result ≡ Status.ZoneFull wanted widest →
@@ -107,10 +115,11 @@ pub fn run<S: Shelf, K: Sink, N: Sink>(
         command_least command files ≤ command_zone command) }
 
     // In a zone with room for all that a level needs, no more is read than the files and each lump
-    // of it once; for a flat no more than its file's directory, one palette and the flat.
+    // of it once; for a flat no more than its file's directory, one palette and the flat. So it is
+    // whatever the run ends with, unless that is a read fault.
     ensures taken { (files : List File) →
         WhereAsked (texts words.now) (Holds (S.view shelf.old) files) →
-        (FaultsRose (S.view shelf.old).faults (S.view shelf.new).faults → ⊥) →
+        (result ≡ Status.ReadFault → ⊥) →
         IfSome (command_of (texts words.now)) (λ command. CommandTakes command files
         (S.view shelf.old).taken (S.view shelf.new).taken) }
 
@@ -118,21 +127,20 @@ pub fn run<S: Shelf, K: Sink, N: Sink>(
     ensures asked { result ≡ Status.ReadFault → IsTrue (ask_for_files (texts words.now)) }
     ensures untouched { ask_for_files (texts words.now) ≡ false → shelf.new ≡ shelf.old }
 
-    // Where nothing fails and the zone is large enough, an accepted run comes to its end.
+    // In a zone that is large enough an accepted run comes to its end, unless it tells a read fault
+    // or a write fault; over a steady shelf it tells no read fault.
     ensures complete { (files : List File) (accepted : Accepted) →
         WhereAsked (texts words.now) (Holds (S.view shelf.old) files) →
         verdict (texts words.now) files ≡ Ok accepted →
         HasRoom (texts words.now) accepted →
-        WhereAsked (texts words.now)
-        (FaultsRose (S.view shelf.old).faults (S.view shelf.new).faults → ⊥) →
-        (FaultsRose (K.faults out.old) (K.faults out.new) → ⊥) →
+        (result ≡ Status.ReadFault → ⊥) → (result ≡ Status.WriteFault → ⊥) →
         (result ≡ accepted.end) ⊎ (result ≡ Status.OutOfMemory) }
     ensures complete_steady { (files : List File) (accepted : Accepted) →
         WhereAsked (texts words.now) (Holds (S.view shelf.old) files) →
         verdict (texts words.now) files ≡ Ok accepted →
         HasRoom (texts words.now) accepted →
         WhereAsked (texts words.now) (IsTrue (S.view shelf.old).steady) →
-        (FaultsRose (K.faults out.old) (K.faults out.new) → ⊥) →
+        (result ≡ Status.WriteFault → ⊥) →
         (result ≡ accepted.end) ⊎ (result ≡ Status.OutOfMemory) }
 
     // A trimmed file renders as the WADs do that it was made of.
@@ -143,11 +151,12 @@ pub fn run<S: Shelf, K: Sink, N: Sink>(
         verdict (texts words.now) files ≡ Ok accepted →
         RendersAlike level wads files accepted.output }
 
-    // The line of the status is noted, unless the notes fail.
+    // The line of the status is noted, unless the notes fail. Their count of faults never falls.
     ensures noted { (FaultsRose (N.faults notes.old) (N.faults notes.new) → ⊥) →
         Grew (N.written notes.old) (N.written notes.new) (line_of result) }
     ensures noted_prefix { GrewByPrefix (N.written notes.old) (N.written notes.new)
         (line_of result) }
+    ensures note_faults { N.faults notes.old ≤ N.faults notes.new }
 
     // What the command of the words determines, said at once.
     ensures runs { RunsAs (command_of (texts words.now)) (S.view shelf.old) (S.view shelf.new)

@@ -17,7 +17,7 @@ returns-in-Done g c view =
     exercise_done c.args.n c.args.zone c.args.format (memory_view c.new-shelf.result) (memory_view c.perform_level.new.shelf) c.new-tally.result c.perform_level.new.out
     (memory_steady c.new-shelf.result _ _ c.new-shelf.ensures c.new.ensures.items)
     (memory_holds c.new-shelf.result _ (made_files c.args.n) _ c.new-shelf.ensures c.requires.files)
-    view _ _ _ _ c.deliver_exercise.result c.summary_of.result c.new-tally.ensures (over_made c.args.zone c.args.format _ _ _ _ Done c.made_level-level.result c.made_level-level.ensures c.in-Done.ensures) c.summary_of.ensures c.deliver_exercise.ensures.ends c.deliver_exercise.ensures.write_fault
+    view _ _ _ _ c.deliver_exercise.result c.summary_of.result c.new-tally.ensures (over_made c.args.zone c.args.format _ _ _ _ Done c.made_level-level.result c.made_level-level.ensures c.in-Done.ensures) c.summary_of.ensures c.deliver_exercise.ensures.ends c.deliver_exercise.ensures.write_fault c.deliver_exercise.ensures.write_settled
 
 pub returns : goal.returns
 returns g c view =

@@ -29,7 +29,7 @@ pub returns-in-Err-clause-renders : goal.returns-in-Err-clause-renders
 returns-in-Err-clause-renders g c = renders_fault c.draw_at.ensures.draws c.in-Err.fault c.status_of_view.result _ c.in-Err.is c.status_of_view.ensures
 
 pub returns-in-Ok-put-clause-renders : goal.returns-in-Ok-put-clause-renders
-returns-in-Ok-put-clause-renders g c = renders_put c.draw_at.ensures.draws c.in-Ok.field-0 c.in-Ok.is c.put.ensures.later
+returns-in-Ok-put-clause-renders g c = renders_put c.draw_at.ensures.draws c.in-Ok.field-0 c.in-Ok.is c.put.ensures.later (rw c.in-Ok-put.is at c.put.ensures.settled)
 
 pub returns-in-Err-put-clause-renders : goal.returns-in-Err-put-clause-renders
 returns-in-Err-put-clause-renders g c = renders_failed c.draw_at.ensures.draws c.in-Ok.field-0 c.in-Ok.is c.put.ensures.later (rw c.in-Err-put.is at c.put.ensures.failed)

@@ -28,7 +28,7 @@ returns-in-Ok-clause-runs g c = command_runs _ (rw c.in-Exercise.is at c.in-Ok.e
 
 pub returns-in-Err-Usage-clause-runs : goal.returns-in-Err-Usage-clause-runs
 returns-in-Err-Usage-clause-runs g c = rw (c.in-Err-Usage.ensures.usage (let error_is_usage = c.in-Err-Usage.is in cc))
-    (record { runs = (inl refl, grew_none _); untouched = λ idle. refl })
+    (record { runs = (inl refl, grew_none _, refl); untouched = λ idle. refl })
 
 pub returns-clause-runs : goal.returns-clause-runs
 returns-clause-runs g c = memory_runs (command_of (texts c.args.words.now)) (g.S.Shelf.view c.args.shelf.now) _ _

@@ -13,7 +13,7 @@ pub returns-in-Ok : goal.returns-in-Ok
 returns-in-Ok g c =
     plain_delivers _ _ _ (done (ppm c.in-Ok.picture.frame c.in-Ok.picture.palette)) _ _ _ _ _ _ c.deliver_flat.result
     (λ held holds. ap (λ (v : Result PictureValue (Stop Refusal)). and_then {B = Written} v (λ picture. Ok (done (ppm picture.frame picture.palette)))) (c.in-Ok.ensures.answers held (holds refl)).ok)
-    (bytes_deliver _ _ _ c.deliver_flat.result c.deliver_flat.ensures.ends) c.deliver_flat.ensures.write_fault
+    (bytes_deliver _ _ _ c.deliver_flat.result c.deliver_flat.ensures.ends) c.deliver_flat.ensures.write_fault c.deliver_flat.ensures.write_settled c.in-Ok.ensures.causes.ok
     (λ held holds. c.in-Ok.ensures.taken held (holds refl))
 
 pub returns-in-Err : goal.returns-in-Err

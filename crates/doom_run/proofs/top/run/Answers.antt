@@ -3,7 +3,7 @@ use Rattle.command_line.specs.Commands.{command_of}
 use Rattle.doom_run.specs.Words.{texts}
 use Rattle.doom_run.proofs.{FullLemmas.run_held, FullLemmas.run_room, alike.RunLemmas.trimmed-run}
 use Rattle.doom_run.proofs.RunLemmas.{absent_at, complete_at, end_at, prefix_at_end, refusal_at, steady_reads, stopped_at}
-use Rattle.doom_run.proofs.RunsLemmas.{runs_asked, runs_ends, runs_full, runs_least, runs_read_fault, runs_taken, runs_unread, runs_unwritten, runs_usage, runs_write_fault, runs_wrong, runs_zoned}
+use Rattle.doom_run.proofs.RunsLemmas.{runs_asked, runs_ends, runs_full, runs_least, runs_read_fault, runs_read_settled, runs_taken, runs_unread, runs_unwritten, runs_usage, runs_write_fault, runs_write_settled, runs_wrong, runs_zoned}
 use Rattle.doom_run.proofs.top.run.Goals as goal
 
 pub returns-clause-ends : goal.returns-clause-ends
@@ -53,6 +53,12 @@ returns-clause-absent g c files held is =
 pub returns-clause-write_fault : goal.returns-clause-write_fault
 returns-clause-write_fault g c is = runs_write_fault _ c.perform-status.ensures.runs is
 
+pub returns-clause-read_settled : goal.returns-clause-read_settled
+returns-clause-read_settled g c other = runs_read_settled _ c.perform-status.ensures.runs other
+
+pub returns-clause-write_settled : goal.returns-clause-write_settled
+returns-clause-write_settled g c other = runs_write_settled _ c.perform-status.ensures.runs other
+
 pub returns-clause-zone_full : goal.returns-clause-zone_full
 returns-clause-zone_full g c files wanted widest is held = runs_full _ c.perform-status.ensures.runs files wanted widest is held
 
@@ -72,8 +78,7 @@ pub returns-clause-complete : goal.returns-clause-complete
 returns-clause-complete g c files accepted held is room read write =
     let runs = c.perform-status.ensures.runs in
     complete_at _ _ _ _ c.perform-status.result accepted (runs_ends _ runs files held) is
-    (λ fault. read (runs_asked _ runs fault) (runs_read_fault _ runs fault))
-    (λ fault. write (runs_write_fault _ runs fault))
+    read write
     (λ wanted widest full. run_room (command_of (texts c.args.words.now)) files accepted wanted widest (runs_full _ runs files wanted widest full held) room is)
 
 pub returns-clause-complete_steady : goal.returns-clause-complete_steady
@@ -81,7 +86,7 @@ returns-clause-complete_steady g c files accepted held is room steady write =
     let runs = c.perform-status.ensures.runs in
     complete_at _ _ _ _ c.perform-status.result accepted (runs_ends _ runs files held) is
     (steady_reads _ _ _ _ c.perform-status.result accepted (runs_ends _ runs files held) is (λ fault. steady (runs_asked _ runs fault)))
-    (λ fault. write (runs_write_fault _ runs fault))
+    write
     (λ wanted widest full. run_room (command_of (texts c.args.words.now)) files accepted wanted widest (runs_full _ runs files wanted widest full held) room is)
 
 pub returns-clause-noted_prefix : goal.returns-clause-noted_prefix
