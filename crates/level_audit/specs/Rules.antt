@@ -1,5 +1,5 @@
 -- The words of the rules below that this crate cites, by the page that each comes from.
-pub use Rattle.art_rules.specs.Words.{AllWithin, BEHAVIOR, BEHAVIOR_AFTER, Fault, FaultFits, FaultFitsOrAbsent, File, HasCauseAt, HasCauses, Holds, IsLaterShelf, Lump, MAP_LUMPS, MAX_SIZE, MIN_SIZE, NameFiles, OutOfMemory, PreparedTexture, ReadFault, Refused, ResultIs, ResultIsOrAbsent, ShelfView, Stop, TextureLists, ZoneFull, and_then, fault_above, from_below, has_name, if_label, is_named_in, itself, last_of, lump_at, map_of, no_file}
+pub use Rattle.art_rules.specs.Words.{AllWithin, BEHAVIOR, BEHAVIOR_AFTER, Fault, FaultFits, FaultFitsOrAbsent, File, HasCauses, Holds, IsLaterShelf, Lump, MAP_LUMPS, MAX_SIZE, MIN_SIZE, NameFiles, OutOfMemory, PreparedTexture, ReadFault, Refused, ResultIs, ResultIsOrAbsent, ShelfView, Stop, TextureLists, ZoneFull, and_then, fault_above, from_below, has_name, if_label, is_named_in, itself, last_of, lump_at, map_of, no_file}
 unfoldable pub use Rattle.art_rules.specs.Words.{are_named, book_lumps, composite_size, each_of, first_needs, frame_in, frame_of, frame_picture, is_label, is_of_frame, is_patch_of, is_patch_of_any, is_single, joined_lists, last_mention, last_that, least, lump_bytes, mask_of, mentions, patch_or_bad, picture_or_missing, pictures_of, place_lump, placed_patch, placed_patches, prepared, prepared_from, prepared_if, prepared_textures, same_frame, shape_in, shape_lumps, shape_of, single_place, texture_of, unless_missing, unless_too_big}
 pub use Rattle.art_rules.specs.declared.{Mention.Mention, PlacedPatch.PlacedPatch}
 pub use Rattle.art_rules.specs.declared.TextureEntry.{TextureEntry}

@@ -1,5 +1,5 @@
 -- Calls that read lumps and write bytes, one after the other.
-use Rattle.art_rules.proofs.Common.{[], ap, append_assoc, arith, Err, err_from_is_err_and, IsErrAnd, IsTrue, length, List, Ok, on_err_weaker, on_ok_weaker, OnErr, OnOk, refl, Result, Some, subst, sym, ℕ, ◌++◌, ◌<◌, ◌∙◌, ◌≡◌, ◌≤◌}
+use Rattle.art_rules.proofs.Common.{[], ap, append_assoc, arith, Err, err_from_is_err_and, IsErrAnd, IsTrue, length, List, Ok, on_err_weaker, on_ok_weaker, OnErr, OnOk, refl, Result, Some, subst, sym, ℕ, ◌++◌, ◌<◌, ◌∙◌, ◌≡◌}
 use Rattle.wad_trim.specs.Rules.{Failed, FaultsRose, Grew, GrewByPrefix, Heap, IsInOrder, IsLive, Item, KeepsOrder, ShelfView, Writes, bytes_of, lump_bytes}
 use Rattle.art_rules.proofs.Laws.{grew_more, grew_none, grew_partly, prefix_none, prefix_of_more}
 use Rattle.scene_rules.proofs.Laws.{order_none, order_then}

@@ -1,6 +1,6 @@
 -- What is told of an audit of the scene, and then of the weapon layers.
 use Rattle.level_audit.specs.Rules.{AuditRefusal, Fault, FaultFits, Frame, LevelJobValue, Lump, OutOfMemory, ReadFault, Refused, ResultIs, SceneValue, ZoneFull, and_then, itself, scene_in}
-use Rattle.art_rules.proofs.Common.{ap, Bool, Err, err_from_is_err_and, IfErr, IfOk, IsErrAnd, List, None, Ok, Option, refl, Result, Some, subst, sym, ℕ, ◌∙◌, ◌≡◌, ◌≤◌}
+use Rattle.art_rules.proofs.Common.{Bool, Err, err_from_is_err_and, IfOk, IsErrAnd, List, None, Ok, Option, refl, Result, Some, subst, ℕ, ◌≡◌}
 use Rattle.art_rules.proofs.Laws.{and_then-ok, step}
 use Rattle.job_files.specs.Files.{FilesValue}
 use Rattle.sound_scene.specs.Sound.{SoundValue, with_book}

@@ -1,4 +1,4 @@
-use Rattle.std.proofs.Common.{◌≡◌, ◌<◌, ap, sym, subst, ◌∙◌, length, Ok, inl, inr, arith}
+use Rattle.std.proofs.Common.{◌≡◌, ◌<◌, ap, sym, subst, ◌∙◌, length, Ok, inl, inr}
 use Rattle.level_audit.specs.Rules.{KeepsOrder, SceneValue, itself, level_job_value, lump_at, lump_bytes}
 use Rattle.art_rules.proofs.Laws.{all_stand_later, causes_stop, causes_then, follows_then}
 use Rattle.scene_rules.proofs.Laws.{order_then}
