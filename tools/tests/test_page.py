@@ -140,7 +140,8 @@ class Views(Shown):
         theirs = pages_shown.data_of(self.at('compared.html'))
         self.assertEqual(data['palette'], theirs['palette'])
         self.assertGreater(len(data['views']), 3)
-        for here, there in zip(data['views'], theirs['views'], strict=True):
+        self.assertEqual(len(data['views']), len(theirs['views']))
+        for here, there in zip(data['views'], theirs['views']):
             for part in ('view', 'told', 'first', 'known', 'painters', 'pixels'):
                 self.assertEqual(here[part], there[part], part)
         self.assertIn('views 13 same', data['head'])

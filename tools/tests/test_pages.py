@@ -314,7 +314,8 @@ class Tables(Tools):
         for more, status in (((), 1), (('--write',), 0)):
             found = self.runs(self.at('clone'), *more)
             self.assertEqual((found[0], found[2]), (status, ''))
-            for line, (page, head, words) in zip(found[1].splitlines(), damages, strict=True):
+            self.assertEqual(len(found[1].splitlines()), len(damages))
+            for line, (page, head, words) in zip(found[1].splitlines(), damages):
                 self.assertTrue(line.startswith(f'{page}, under {head}: ') and words[:-1] in line, line)
         self.assertEqual(self.runs(self.at('clone')), (0, '', ''))
         for page in self.PAGES:
