@@ -17,6 +17,7 @@ LEAST_MIRRORED = 0.5  # of its pixels, which are other texels where it is small
 SEVERAL = 3  # textures
 LEAST_PIXELS, LEAST_COLOURS = 24, 3  # of an item, and of a line of it
 MOST = 0.9  # of what is looked at
+MOST_BY_CHANCE = 0.1  # of the lines of a view that look lit where they have other texels; at most 0.07 where it was tried
 
 
 class Sample(typing.NamedTuple):
@@ -125,18 +126,31 @@ def lines_in(sample: Sample, kinds: Collection[int]) -> Iterator[tuple[Item, Pai
         yield item, pairs
 
 
+def is_line_lit(pairs: Pairs, known: lights.Lights) -> bool:
+    """Whether a line has the same texels as ours, under another colormap."""
+    ways = -1
+    for ours, port in pairs:
+        ways &= known.ways(ours + lights.COLOURS * port)
+    return ways != 0
+
+
+def lit_lines(sample: Sample, kinds: Collection[int], known: lights.Lights) -> tuple[int, int]:
+    """How many lines of a view differ as by light, and how many there are that have enough colours."""
+    found = [is_line_lit(pairs, known) for _, pairs in lines_in(sample, kinds) if len(pairs) >= LEAST_COLOURS]
+    return sum(found), len(found)
+
+
 def is_lit(samples: list[Sample], kinds: Collection[int], known: lights.Lights) -> bool:
     """Whether each line has the same texels as ours, under another colormap."""
-    lit = whole = 0
-    for sample in samples:
-        for _, pairs in lines_in(sample, kinds):
-            if len(pairs) >= LEAST_COLOURS:
-                ways = -1
-                for ours, port in pairs:
-                    ways &= known.ways(ours + lights.COLOURS * port)
-                whole += 1
-                lit += ways != 0
+    counts = [lit_lines(sample, kinds, known) for sample in samples]
+    lit, whole = map(sum, zip(*counts)) if counts else (0, 0)
     return whole > 0 and lit >= MOST * whole
+
+
+def has_lit_view(samples: list[Sample], kinds: Collection[int], known: lights.Lights) -> bool:
+    """Whether a view differs in part as by light: more of its lines than chance makes look so."""
+    counts = (lit_lines(sample, kinds, known) for sample in samples)
+    return any(lit > MOST_BY_CHANCE * whole for lit, whole in counts)
 
 
 def has_same_texels(samples: list[Sample], kinds: Collection[int], texels: Texels, colormaps: bytes) -> bool:

@@ -156,7 +156,9 @@ def by_list(evidence: Evidence) -> str:
 def of_planes(evidence: Evidence) -> tuple[str, str]:
     if shapes.is_lit(evidence.samples, (PLANE,), evidence.lights):
         return 'plane light', ''
-    return ('yslope', '') if has_same(evidence, PLANE) else ('', '')
+    # An edge that is left out has a plane go on under another light, and where that has another flat, other texels too.
+    is_mixed = shapes.has_lit_view(evidence.samples, (PLANE,), evidence.lights)
+    return ('yslope', '') if not is_mixed and has_same(evidence, PLANE) else ('', '')
 
 
 def of_sprites(evidence: Evidence) -> tuple[str, str]:

@@ -171,6 +171,19 @@ class Symptoms(Tools):
         wider.texel = lambda row, column: own.texel(3 * row, column * 7)
         self.assertEqual(self.said([behind, own], drawn([behind, wider])), self.line('sprite rotation'))
 
+    def test_planes_in_part_by_light(self):
+        """Rows of planes as under another light, and others with other texels: an edge is left out, and not all is yslope. A
+        row or two may look so by chance."""
+        blocks = FAULTS['yslope'][0]
+
+        def port(every):
+            """Every so many rows of the plane under another colormap, and other texels in the others."""
+            return drawn(blocks, lambda block, row, column: block.texel(row, column) if block.kind == WALL else
+                         MAPS[256 * 5 + block.texel(row, column)] if row % every == 0 else block.texel(2 * row, column))
+
+        self.assertEqual(self.said(blocks, port(5)), [])
+        self.assertEqual(self.said(blocks, port(40)), self.line('yslope'))
+
     def test_light_of_rows(self):
         """Where the views that differ are those with light in their rows, that is said first; not where others differ too."""
         blocks = FAULTS['yslope'][0]
