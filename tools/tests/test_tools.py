@@ -11,6 +11,7 @@ from made_files import COMMAND, DOOMVIEW, DRAWING, FRAME, TOOLS, Tools, made_wad
 from doomview_tools import levels, paths
 from doomview_tools.trouble import Trouble
 
+# Prints its words, and the lines that it would run.
 PARALLEL = '#!/bin/sh\n[ "$1" != --version ] || { echo GNU parallel; exit; }\necho "$@"\ncat\nexit 3\n'
 
 
@@ -375,7 +376,8 @@ cat "$FRAME_FILE"
         self.refuses('doomview is no folder', 'draw-all', 'made.wad', 'doomview', doomview=self.drawing)
 
     def test_machines(self):
-        """On other machines GNU parallel draws, with the words that draw a map here."""
+        """On other machines GNU parallel draws, with the words that draw a map here; as many at a time as stand before the
+        name of a machine, or as --jobs says."""
         self.stand_in('bin/parallel', PARALLEL)
         status, output, _ = self.run_tool('draw-all', 'made.wad', 'out', '--machines', '8/one', '--jobs', '2',
                                           doomview=self.doomview)
@@ -387,6 +389,8 @@ cat "$FRAME_FILE"
             self.assertEqual(line, f"env 'DOOMVIEW={folder}/doomview' {COMMAND} picture '{folder}/made.wad' {name} "
                                    f"'{folder}/out/{name}.png'")
         self.assertTrue(os.path.isdir(self.at('out')))
+        many = self.run_tool('draw-all', 'made.wad', 'out', '--machines', '8/one', doomview=self.doomview)[1]
+        self.assertEqual(many.decode().splitlines()[0], '--jobs 100% --sshlogin 8/one')
 
     def test_audit_all(self):
         done = self.run_tool('audit-all', self.wad, doomview=self.doomview)

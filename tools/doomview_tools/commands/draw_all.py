@@ -19,6 +19,7 @@ from ..trouble import FOUND, Trouble
 WITHOUT = ('--tables', '--things', '--path', '--format')
 TABLE, SHOWN = 'drawn.csv', 6  # the table, and the views over a limit that a line has
 POLL = 0.5  # seconds between two looks at how far it is
+OWN_JOBS = '100%'  # what GNU parallel takes as one job a processor, or as many as stand before the name of a machine
 PAGE = cli.Page(
     'draw-all', 'draws every map of a WAD, or many camera paths, several at a time', '''
 Draws every map of a WAD from its player start to FOLDER/MAP.png, several at a time.
@@ -31,9 +32,9 @@ it was when it is given again, in the middle of a path too; what is drawn alread
 words, is left as it is. A terminal shows how far it is.
 
 With --machines they are drawn by GNU parallel on other machines, which are reached by ssh: 8/one,8/two draws eight at a
-time on each of the machines one and two. The folder of doomview, the WADs, the paths and FOLDER must have the same paths
-there, as on a shared disk. Of paths FOLDER has the log of GNU parallel, by which a call that is given again leaves out
-what was done.
+time on each of the machines one and two, and one,two as many as each has processors; with --jobs each draws that many.
+The folder of doomview, the WADs, the paths and FOLDER must have the same paths there, as on a shared disk. Of paths
+FOLDER has the log of GNU parallel, by which a call that is given again leaves out what was done.
 ''', '''
 $ doomview draw-all freedoom2.wad out --jobs 8
 $ doomview draw-all freedoom2.wad out --paths paths --spans packed
@@ -50,8 +51,7 @@ def add_words(parser: argparse.ArgumentParser) -> None:
     parser.add_argument('folder', metavar='FOLDER', type=Folder, help='where the pictures go; it is made')
     cli.add_base(parser)
     parser.add_argument('--paths', metavar='PATHS', type=Source, help='draws these camera paths: a folder of them, or one')
-    parser.add_argument('--jobs', metavar='N', type=cli.number(1, 1000), default=system.processors(),
-                        help='how many maps at a time; else one a processor')
+    parser.add_argument('--jobs', metavar='N', type=cli.number(1, 1000), help='how many maps at a time; else one a processor')
     parser.add_argument('--machines', metavar='LIST', help='machines to draw on, as GNU parallel takes --sshlogin')
     parser.add_argument('--no-table', action='store_true', help='writes no table of the paths, as one of several calls')
     cli.add_job_options(parser, 'render', WITHOUT)
@@ -90,7 +90,8 @@ def draw_there(commands: list[list[str]], options: argparse.Namespace, more: Seq
     """The same by GNU parallel on other machines."""
     check_parallel()
     lines = [shlex.join(['env', f'DOOMVIEW={program.path()}', *words]) for words in commands]
-    words = ['parallel', '--jobs', str(options.jobs), '--sshlogin', options.machines, *more]
+    jobs = str(options.jobs or OWN_JOBS)
+    words = ['parallel', '--jobs', jobs, '--sshlogin', options.machines, *more]
     return subprocess.run(words, input='\n'.join(lines), text=True).returncode
 
 
@@ -134,7 +135,7 @@ def draw_paths(options: argparse.Namespace, files: list[str], maps: list[str]) -
         paths_there(drawing, found, options, files)
         drawn = [drawing.known(path) for path in found]
     else:
-        drawn = paths_here(drawing, found, options.jobs)
+        drawn = paths_here(drawing, found, options.jobs or system.processors())
     for one in drawn:
         if one.trouble:
             print(f'doomview draw-all: {one.path.name}: {one.trouble}', file=sys.stderr)
@@ -165,5 +166,6 @@ def run(options: argparse.Namespace) -> int:
     if options.paths:
         return draw_paths(options, files, maps)
     commands = [command(options, files, name) for name in maps]
-    failed = draw_there(commands, options) if options.machines else draw_here(commands, options.jobs)
+    failed = draw_there(commands, options) if options.machines else \
+        draw_here(commands, options.jobs or system.processors())
     return FOUND if failed else 0
