@@ -8,7 +8,7 @@ from . import differences, lights, list_files, traces
 from .doom import COLORMAP_SIZE
 from .frames import HEIGHT, SIZE, WIDTH
 from .texels import Texels
-from .traces import MIDDLE, PLANE, SKY, WALL, Pixels
+from .traces import MIDDLE, PLANE, SKY, SPRITE, WALL, Pixels
 
 MOST_PLACES = 160  # of an item by which it is looked for elsewhere
 FARTHEST, NEAR = 40, 8  # pixels, along rows or columns, and in both directions
@@ -230,7 +230,7 @@ def directions_of_columns(sample: Sample, item: Item) -> tuple[int, int, int]:
 
 def is_end_of_columns(samples: list[Sample]) -> bool:
     """Whether what differs is the last pixel of columns alone, the one below another item's: mostly columns of several pixels,
-    of which those above are the same."""
+    of which those above are the same; and one in three of all columns at least, since a few may have it by another mistake."""
     ends = longer = whole = 0
     for sample in samples:
         for place in differences.places_of(sample.marks):
@@ -239,7 +239,15 @@ def is_end_of_columns(samples: list[Sample]) -> bool:
             whole += 1
             ends += is_first and (below >= SIZE or lights.key_at(sample.records, below) != key)
             longer += is_first and above >= 0 and lights.key_at(sample.records, above) == key
-    return whole > 0 and ends >= MOST * whole and longer * 2 > whole
+    return whole > 0 and ends >= MOST * whole and longer * 2 > whole and SEVERAL * ends >= sum(map(ends_of_columns, samples))
+
+
+def ends_of_columns(sample: Sample) -> int:
+    """How many columns of walls, middle textures and sprites end in a view, above something else or at its last row."""
+    kinds = kinds_in(sample)
+    places = (place for place in range(SIZE) if kinds[place] in (WALL, MIDDLE, SPRITE))
+    return sum(place + WIDTH >= SIZE or lights.key_at(sample.records, place) != lights.key_at(sample.records, place + WIDTH)
+               for place in places)
 
 
 def is_edge_of_planes(samples: list[Sample]) -> bool:

@@ -171,6 +171,14 @@ class Symptoms(Tools):
         wider.texel = lambda row, column: own.texel(3 * row, column * 7)
         self.assertEqual(self.said([behind, own], drawn([behind, wider])), self.line('sprite rotation'))
 
+    def test_some_ends_of_columns(self):
+        """The last pixels of a few columns alone are no mistake of their count."""
+        blocks = FAULTS['column count'][0]
+        for columns, is_named in ((range(10, 40), True), (range(10, 30), False)):
+            port = drawn(blocks, lambda block, row, column: 0 if block.kind == WALL and row == 99 and column in columns else
+                         block.texel(row, column))
+            self.assertEqual(self.said(blocks, port) == self.line('column count'), is_named)
+
     def test_planes_in_part_by_light(self):
         """Rows of planes as under another light, and others with other texels: an edge is left out, and not all is yslope. A
         row or two may look so by chance."""
