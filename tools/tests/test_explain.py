@@ -208,7 +208,7 @@ class Explain(Tools):
         self.assertEqual([code for code, (wrong, mend) in refusals.codes().items() if not (wrong and mend)], [])
         for code in codes[::5]:
             error = self.run_tool('explain', f'doomview: refused {code}')[2]
-            self.assertRegex(error, f'^explain: {code}: .{{10,}}. To mend it: .{{5,}}.\n$')
+            self.assertRegex(error, f'^explain: {code}: .{{10,}}. To mend it: .{{5,}}.\n')
             self.assertNotIn('the same', error)
 
 
