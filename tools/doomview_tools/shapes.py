@@ -49,13 +49,13 @@ def places_of(sample: Sample, kind: int, number: typing.Optional[int] = None) ->
     return [place for place, own in enumerate(kinds) if own == kind and low[place] == number & 255]
 
 
-def differing_items(sample: Sample, kind: int) -> list[Item]:
+def differing_items(sample: Sample, kind: int, least: int = LEAST_PIXELS) -> list[Item]:
     """The items of a kind of which enough differs, by their numbers."""
     found: collections.Counter[int] = collections.Counter()
     for painter, numbers in sample.pixels.items():
         if painter.kind == kind:
             found.update(numbers)
-    return [(kind, number) for number, count in found.items() if count >= LEAST_PIXELS]
+    return [(kind, number) for number, count in found.items() if count >= least]
 
 
 def alike(sample: Sample, places: list[int], step: Step) -> float:
@@ -276,11 +276,11 @@ def is_of_middles(samples: list[Sample]) -> bool:
 
 
 def is_unpainted(samples: list[Sample]) -> bool:
-    """Whether the port has 0, as where nothing is painted, wherever it differs."""
+    """Whether the port has 0, as where nothing is painted, wherever it differs; a few pixels may be 0 by chance."""
     whole = sum(sample.marks.count(1) for sample in samples)
     zeros = sum(differences.count_of(bytes(map(lambda mark, colour: mark and not colour, sample.marks, sample.port)))
                 for sample in samples)
-    return zeros >= MOST * whole
+    return zeros >= MOST * whole and whole >= LEAST_PIXELS
 
 
 def differ_by(samples: list[Sample], texels: Texels, is_usual: Callable[[typing.Any], bool]) -> bool:
@@ -360,9 +360,9 @@ def pixels_by_order(samples: list[Sample]) -> tuple[int, int]:
 
 
 def wholly_differing(sample: Sample, kind: int) -> list[bool]:
-    """Of each item of a kind whether nearly all of its pixels differ."""
+    """Of each item of a kind, a small one too, whether nearly all of its pixels differ."""
     found = []
-    for item in differing_items(sample, kind):
+    for item in differing_items(sample, kind, 1):
         places = places_of(sample, *item)
         found.append(sum(sample.marks[place] for place in places) >= LEAST_ALIKE * len(places))
     return found

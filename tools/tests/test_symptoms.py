@@ -179,6 +179,13 @@ class Symptoms(Tools):
                          block.texel(row, column))
             self.assertEqual(self.said(blocks, port) == self.line('column count'), is_named)
 
+    def test_narrow_sprites(self):
+        """A sprite of one column that is missing is whole, however few pixels it has; also where what is behind it is 0."""
+        for colour in (None, 0):
+            blocks = [wall(columns=range(80, 220), rows=range(30, 120)), sprite(rows=range(60, 72), columns=range(130, 131))]
+            port = drawn(blocks, lambda block, row, column: colour if block.kind == SPRITE else block.texel(row, column))
+            self.assertEqual(self.said(blocks, port, views=1), self.line('sprites missing'))
+
     def test_planes_in_part_by_light(self):
         """Rows of planes as under another light, and others with other texels: an edge is left out, and not all is yslope. A
         row or two may look so by chance."""
