@@ -158,10 +158,14 @@ class Tools(unittest.TestCase):
     def run_tool(self, tool, *words, **more):
         return self.run_command(COMMAND, tool, *words, **more)
 
-    def refuses(self, part, tool, *words, command=COMMAND, **more):
-        """The tool ends with a status other than 0, writes nothing, and says in a sentence what is wrong."""
+    def refuses(self, part, tool, *words, command=COMMAND, ends=None, **more):
+        """The tool ends with a status other than 0, or with the one that is named, writes nothing, and says in a sentence what
+        is wrong."""
         status, output, error = self.run_command(command, tool, *words, **more)
-        self.assertNotEqual(status, 0)
+        if ends is None:
+            self.assertNotEqual(status, 0)
+        else:
+            self.assertEqual(status, ends, error)
         self.assertEqual(output, b'')
         self.assertIn(part, error)
         self.assertNotIn('Traceback', error)

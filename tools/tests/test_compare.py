@@ -86,7 +86,7 @@ class Compare(Tools):
         for views, part in (('12', '--views 12: there are 12 views, from 0 to 11'), ('3-', 'and not 3-'), ('a', 'and not a'),
                             ('5-12', '--views 5-12: there are 12 views'), ('9-3', '--views 9-3: there are 12'),
                             ('', '--views are numbers and ranges of views, as 3,7-9')):
-            self.refuses(part, *words, '--views', views)
+            self.refuses(part, *words, '--views', views, ends=2)
 
     def test_reports(self):
         """What was found as JSON and as JUnit has it: all views that differ, also those that are not listed."""
@@ -117,7 +117,7 @@ class Compare(Tools):
         suite = xml.parse(self.at('a.xml')).getroot()
         self.assertEqual([case.find('failure').get('message') for case in suite if case.find('failure') is not None],
                          ['ours.bin has 3 views, port.bin 1'])
-        self.refuses('there is no folder absent', *words[:3], '--json', 'absent/a.json')
+        self.refuses('there is no folder absent', *words[:3], '--json', 'absent/a.json', ends=2)
 
     def test_many_views(self):
         """Many views are compared in parts, by several processes where there are several: in their order, and as few are."""
@@ -137,7 +137,7 @@ class Compare(Tools):
         traces[229] = traced((29, 229, (1, 2, 4, 1, 6, 0)))
         self.write('trace.bin', b''.join(traces))
         self.refuses('trace.bin is not the trace of these frames: at row 29 column 229 it has colour 6 and the frame 5', 'compare',
-                     'ours.bin', 'port.bin', '--trace', 'trace.bin')
+                     'ours.bin', 'port.bin', '--trace', 'trace.bin', ends=2)
 
     def test_progress(self):
         """A terminal shows how far a comparison is; the line goes at the end."""
@@ -198,7 +198,7 @@ class Compare(Tools):
                             ('and a view has 512000; name the whole of what doomview trace', '0 0 0 names.wad'),
                             ('is no WAD', '0 0 0 trace.bin trace.bin'),
                             ('--help shows its words', '0 0')]:
-            self.refuses(part, 'pixel', *words.split())
+            self.refuses(part, 'pixel', *words.split(), ends=2)
 
     def test_textures_of_patches(self):
         """A wall that is read from a patch bears the name of the one texture that has it, or of several."""
@@ -225,7 +225,7 @@ class Compare(Tools):
             '  plane    FLAT1          1  plane 0', '  sprite   SHARED         1  sprite 0'])
         damaged = [(label, data[:-1] if label == 'TEXTURE1' else data) for label, data in lists]
         self.write('names.wad', wad(damaged[:1] + [('TEXTURE2', struct.pack('<I', 9))]))
-        self.refuses('the lists of textures in the WADs are damaged', 'pixel', '0', '0', '0', 'trace.bin', 'names.wad')
+        self.refuses('the lists of textures in the WADs are damaged', 'pixel', '0', '0', '0', 'trace.bin', 'names.wad', ends=2)
 
     def test_pictures(self):
         self.write('ours.bin', painted((0, 0, 255)))
@@ -259,10 +259,10 @@ class Compare(Tools):
         self.assertEqual(self.run_tool(*words, '--but', 'plane,wall')[0], 0)
         for part, more in (('there is no painter floor; there are nothing, wall', ['--only', 'floor']),
                            ('name --only or --but, and not both', ['--only', 'sky', '--but', 'sky'])):
-            self.refuses(part, *words, *more)
-        self.refuses('--only and --but need the trace', *words[:3], '--only', 'sky')
-        self.refuses('--least-width needs the list', *words, '--only', 'sky', '--least-width', '2')
-        self.refuses('--least-width: a number from 1 to 320', *words, '--least-width', '0')
+            self.refuses(part, *words, *more, ends=2)
+        self.refuses('--only and --but need the trace', *words[:3], '--only', 'sky', ends=2)
+        self.refuses('--least-width needs the list', *words, '--only', 'sky', '--least-width', '2', ends=2)
+        self.refuses('--least-width: a number from 1 to 320', *words, '--least-width', '0', ends=2)
 
     def test_mask(self):
         """Pixels of kinds, but of the sprites with some numbers; a fragment of the same number counts."""
@@ -297,9 +297,9 @@ class Compare(Tools):
                              ((5, 1, 0, 5, 6, 0), 'lump 5 of the WADs is FLAT1, which is no picture of a sprite, and a'),
                              ((2, 1, 0, 5, 7, 0), 'at row 1 column 1 it has colour 7 and the frame 6; name what')):
             self.write('trace.bin', traced((1, 1, record)))
-            self.refuses(part, *words)
+            self.refuses(part, *words, ends=2)
             if record[4] == 6:
-                self.refuses('a trace of other WADs', 'pixel', '0', '1', '1', 'trace.bin', 'names.wad')
+                self.refuses('a trace of other WADs', 'pixel', '0', '1', '1', 'trace.bin', 'names.wad', ends=2)
         self.write('trace.bin', traced((1, 1, (2, 1, 0, 5, 6, 0))))
         self.assertEqual(self.run_tool(*words)[0], 1)
 
@@ -318,10 +318,10 @@ class Compare(Tools):
             status, output, error = self.run_tool('compare', ours, port, '--wad', 'names.wad')
             self.assertEqual((status, error), (int(found is other), ''))
             self.assertTrue(output.startswith(found), output)
-        self.refuses('name it by --wad', 'compare', 'ours.ppm', 'ours.bin')
+        self.refuses('name it by --wad', 'compare', 'ours.ppm', 'ours.bin', ends=2)
         self.write('ours.ppm', ppm[:-1])
         self.refuses('ours.ppm has 384029 bytes, and a PPM of doomview 192015', 'compare', 'ours.ppm', 'ours.bin',
-                     '--wad', 'names.wad')
+                     '--wad', 'names.wad', ends=2)
 
     @unittest.skipUnless(pages_shown.BROWSER, 'no Chromium here')
     def test_page(self):
@@ -346,7 +346,7 @@ class Compare(Tools):
         self.assertEqual(found[8:10], ['port, in the place of ours', 'ours'])
         self.assertEqual(found[10], [False, True])
         self.assertEqual(found[11], found[1])
-        self.refuses('there is no folder absent', 'compare', *words[:-1], 'absent/page.html')
+        self.refuses('there is no folder absent', 'compare', *words[:-1], 'absent/page.html', ends=2)
 
     @unittest.skipUnless(pages_shown.BROWSER, 'no Chromium here')
     def test_page_of_known_views(self):
@@ -395,13 +395,13 @@ class Compare(Tools):
         done = self.run_tool(*words, '--wad', 'twice.wad')
         self.assertEqual(done[:2], (0, b'views 1 same 1 different 0 pixels 0\n'
                                        b'entries of the palette with the same colour: 8 and 10; where ours has one of them, the port counts as having it too\n'))
-        self.refuses('name it by --wad', *words)
+        self.refuses('name it by --wad', *words, ends=2)
         self.write('other.wad', wad([('PLAYPAL', bytes(768))]))
-        self.refuses('the colour 5,2,9 at row 0 column 0 is in no entry of the palette', *words, '--wad', 'other.wad')
+        self.refuses('the colour 5,2,9 at row 0 column 0 is in no entry of the palette', *words, '--wad', 'other.wad', ends=2)
         self.write('wide.png', png.png(2, 1, bytes(6)))
-        self.refuses('wide.png is 2 by 1', 'compare', 'one.bin', 'wide.png', '--wad', 'names.wad')
+        self.refuses('wide.png is 2 by 1', 'compare', 'one.bin', 'wide.png', '--wad', 'names.wad', ends=2)
         self.write('cut.png', png.SIGNATURE + chunks[:300])
-        self.refuses('cut.png is no PNG, PCX or PPM', 'compare', 'one.bin', 'cut.png', '--wad', 'names.wad')
+        self.refuses('cut.png is no PNG, PCX or PPM', 'compare', 'one.bin', 'cut.png', '--wad', 'names.wad', ends=2)
 
     def test_full_output(self):
         """What cannot be written is told."""
@@ -413,7 +413,7 @@ class Compare(Tools):
             self.assertEqual((status, error), (2, 'doomview: cannot write the output: No space left on device\n'))
         self.write('out', b'')
         self.write('port.bin', painted((0, 0, 1)))
-        self.refuses('out: File exists', 'compare', 'ours.bin', 'port.bin', '--png', 'out')
+        self.refuses('out: File exists', 'compare', 'ours.bin', 'port.bin', '--png', 'out', ends=2)
 
     def test_folder(self):
         """The port's frames may be files of a folder, in the order of their numbers."""
@@ -426,7 +426,7 @@ class Compare(Tools):
         self.assertEqual((status, error), (1, ''))
         self.assertRegex(output.decode(), '^1 of 4 views differ\nview 2 pixels 1 .*: 5, port 1\nviews 4 same 3 different 1 pixels 1\n$')
         self.write('theirs/3.raw', b'odd')
-        self.refuses('theirs/3.raw has 3 bytes, and a view has 64000', 'compare', 'ours.bin', 'theirs')
+        self.refuses('theirs/3.raw has 3 bytes, and a view has 64000', 'compare', 'ours.bin', 'theirs', ends=2)
 
     def test_wrong(self):
         self.write('ours.bin', painted())

@@ -154,10 +154,10 @@ class WholeFrames(Tools):
                 (lambda i: [i * 3 % 256, 9, 7], 'each colour is always the same other one: the port has another palette')):
             rgb = bytes(part for colour in self.views[0] for part in colour_of(colour))
             self.write('port.png', png.png(320, 200, rgb))
-            self.refuses(f'is in no entry of the palette; {part}', 'compare', 'ours.bin', 'port.png', '--wad', 'names.wad')
+            self.refuses(f'is in no entry of the palette; {part}', 'compare', 'ours.bin', 'port.png', '--wad', 'names.wad', ends=2)
         self.write('port.png', png.png(320, 200, bytes(i * i // 7 % 256 for i in range(3 * FRAME))))
         self.refuses('turn off what changes colours (gamma, filters, true colour)', 'compare', 'ours.bin', 'port.png',
-                     '--wad', 'names.wad')
+                     '--wad', 'names.wad', ends=2)
 
     def test_window(self):
         """A port that paints where a smaller view has nothing; three times as many views that are no colours."""

@@ -142,14 +142,14 @@ class Paths(Tools):
         self.assertEqual(error, 'doomview draw-all: MAP01: doomview: refused 901 3\n')
         self.assertEqual(self.frames('MAP02-far.bin'), [4, 5])
         self.write('paths/MAP01.csv', b'no path\n')
-        self.refuses('MAP01.csv is no camera path', 'draw-all', 'made.wad', 'out', '--paths', 'paths', doomview=self.program)
+        self.refuses('MAP01.csv is no camera path', 'draw-all', 'made.wad', 'out', '--paths', 'paths', doomview=self.program, ends=2)
         self.path('MAP77.csv', 1)
         self.refuses('paths/MAP77.csv is named after no map of the WAD', 'draw-all', 'made.wad', 'out', '--paths', 'paths',
-                     doomview=self.program)
+                     doomview=self.program, ends=2)
         os.mkdir(self.at('none'))
         for place in ('none', 'absent'):
             self.refuses(f'{place} has no camera paths; their names are those of maps', 'draw-all', 'made.wad', 'out', '--paths',
-                         place, doomview=self.program)
+                         place, doomview=self.program, ends=2)
 
     def test_machines(self):
         """On other machines each path is drawn by a call of its own, and GNU parallel keeps a log of these."""

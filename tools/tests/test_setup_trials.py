@@ -140,11 +140,11 @@ class SetUps(Tools):
         self.write('port.bin', bytes(64000 * 7))
         self.path('path.csv', ROWS[:3])
         words = ['compare', 'ours.bin', 'port.bin', '--path', 'path.csv']
-        self.refuses('--path needs --map and --wad too', *words)
+        self.refuses('--path needs --map and --wad too', *words, ends=2)
         self.refuses('path.csv has 3 rows, and ours.bin 7 views; name the path of the run', *words, '--map', 'MAP01', '--wad',
-                     'made.wad')
-        self.refuses('--skill is a word of the run whose path is named by --path FILE', *words[:3], '--skill', '3')
-        self.refuses('--map is the map of a list', *words[:3], '--map', 'MAP01')
+                     'made.wad', ends=2)
+        self.refuses('--skill is a word of the run whose path is named by --path FILE', *words[:3], '--skill', '3', ends=2)
+        self.refuses('--map is the map of a list', *words[:3], '--map', 'MAP01', ends=2)
 
 
 if __name__ == '__main__':

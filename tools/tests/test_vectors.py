@@ -167,7 +167,7 @@ class Compare(Tools):
         views = pages_shown.data_of(self.at('page.html'))['views']
         self.assertEqual([view['told'].partition('; ')[2] for view in views], known)
         self.assertEqual([view['known'] for view in views], [True, True, False])
-        self.refuses('no vectors of ours.bin', 'compare', 'ours.bin', 'ours.bin', '--vectors', 'made.csv')
+        self.refuses('no vectors of ours.bin', 'compare', 'ours.bin', 'ours.bin', '--vectors', 'made.csv', ends=2)
 
 
 def game(name):

@@ -82,9 +82,9 @@ class Work(Tools):
             wrong_views.tests(self.at('work'))
         for part, words in (('there is no folder absent', ['absent']), ('bin has no test of a port', ['bin']),
                             ('explain takes the folder WORK', ['work', 'work'])):
-            self.refuses(part, 'vectors', 'explain', *words)
+            self.refuses(part, 'vectors', 'explain', *words, ends=2)
         self.write('work/made/found.json', b'{}')
-        self.refuses('found.json is not what vectors/ci writes', 'vectors', 'explain', 'work')
+        self.refuses('found.json is not what vectors/ci writes', 'vectors', 'explain', 'work', ends=2)
 
 
 @unittest.skipUnless(TESTED and game('freedoom2'), 'the program or freedoom2.wad (package: freedoom) is not there')
